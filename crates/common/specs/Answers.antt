@@ -1,0 +1,116 @@
+-- The answers: each number of the sheet has one name, here and in the code (crate `answers`).
+use Prim.Native.Nat.{ℕ}
+
+-- ---- a step or a run: 0 and 1 end well, 2 to 13 are stops, 14 and 15 refuse the state
+
+-- the step ran, the budget is used, or the call is done
+abbrev pub done : ℕ
+done = 0
+
+-- the instruction is Halt
+abbrev pub halt : ℕ
+halt = 1
+
+-- pc is neither below N nor a service
+abbrev pub no-place : ℕ
+no-place = 2
+
+-- the word is no instruction; also the decoder's own refusal
+abbrev pub no-instruction : ℕ
+no-instruction = 3
+
+-- arrival: pc's owner is not the pc number, and no jump by a number in I came here
+abbrev pub no-arrival : ℕ
+no-arrival = 4
+
+-- a Load from an address that is not below N
+abbrev pub load-outside : ℕ
+load-outside = 5
+
+-- a Store to an address that is not below N
+abbrev pub store-outside : ℕ
+store-outside = 6
+
+-- a Store to a word that the instruction's owner neither owns nor may write
+abbrev pub store-forbidden : ℕ
+store-forbidden = 7
+
+-- isolate: a set is not wholly inside memory, or has first >= past
+abbrev pub bad-set : ℕ
+bad-set = 8
+
+-- isolate: A' is empty
+abbrev pub empty-set : ℕ
+empty-set = 9
+
+-- isolate: A' is not within A, J' not within A or J, or S' not within A or S of the caller
+abbrev pub not-within : ℕ
+not-within = 10
+
+-- add jump target, add store target: the caller does not own the address
+abbrev pub not-owned : ℕ
+not-owned = 11
+
+-- a service: r15 is not the caller's to return to
+abbrev pub no-return : ℕ
+no-return = 12
+
+-- isolate: all 64 compartment numbers are used
+abbrev pub no-number : ℕ
+no-number = 13
+
+-- the form of the state: the lengths, N, next or the pc number
+abbrev pub bad-form : ℕ
+bad-form = 14
+
+-- the owner of the word at pc is 1, 2, 3 or not below next
+abbrev pub bad-owner : ℕ
+bad-owner = 15
+
+-- ---- the loader; the writer has bad-size and bad-entry too
+
+-- a field is not whole
+abbrev pub not-whole : ℕ
+not-whole = 20
+
+-- N is not 1 to 2,048
+abbrev pub bad-size : ℕ
+bad-size = 21
+
+-- the register count is above 16
+abbrev pub many-registers : ℕ
+many-registers = 22
+
+-- the last listed register is 0
+abbrev pub last-zero : ℕ
+last-zero = 23
+
+-- the entry count is not 1
+abbrev pub bad-entry-count : ℕ
+bad-entry-count = 24
+
+-- the entry is not below N
+abbrev pub bad-entry : ℕ
+bad-entry = 25
+
+-- bytes are left over
+abbrev pub bytes-left : ℕ
+bytes-left = 26
+
+-- the lent memories differ in length
+abbrev pub lengths-differ : ℕ
+lengths-differ = 27
+
+-- N is above the lent length
+abbrev pub short-memory : ℕ
+short-memory = 28
+
+-- ---- the encoder and the writer
+
+-- opcode above 13, a field out of range, or an unused field not 0
+abbrev pub no-word : ℕ
+no-word = 30
+
+-- the out buffer is too short
+abbrev pub short-buffer : ℕ
+short-buffer = 31

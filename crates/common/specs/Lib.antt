@@ -1,0 +1,9 @@
+pub mod Tests
+pub mod Promise
+pub mod Answers
+pub mod Opcodes
+pub mod Words
+pub mod WordLaws
+pub mod Instructions
+pub mod Services
+pub mod AddressSets

@@ -1,0 +1,9 @@
+pub mod Compartments
+pub mod CompartmentLaws
+pub mod State
+pub mod Checks
+pub mod Step
+pub mod Run
+pub mod Images
+pub mod SheetImages
+pub mod Lines
