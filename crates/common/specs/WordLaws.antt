@@ -1,13 +1,13 @@
 -- Laws of instruction words: each number exactly on its condition, and both round trips.
 use mathlib.Core.Path.{_≡_, refl, sym}
-use mathlib.Core.Bool.{Bool, true, false, cond, _&&_}
+use mathlib.Core.Bool.{Bool, true, false, cond, _&&_, _||_}
 use mathlib.Core.List.{List, [], _∷_}
 use mathlib.Core.Logic.{_↔_, _⊎_, inl, inr, ⊎-elim}
 use Prim.Native.Nat.{ℕ, zero, suc, _+_, _*_, _/_, _%_, _≤_, _<_}
 use native.Mathlib.Omega.{arith}
-use borrow.Author.Tests.{ltb-true, ltb-false, leb-true, leb-false, lt-ltb, le-ltb, le-leb, lt-leb}
-use lib.Dec.{ltb, leb}
-use lib.ListN.{getD}
+use borrow.Author.Tests.{ltb-true, ltb-false, leb-true, leb-false, eqb-true, lt-ltb, le-leb}
+use lib.Dec.{ltb, leb, eqb}
+use lib.ListN.{getD, List·getD-eq-default}
 use Rattle.common.specs.Answers as answer
 use Rattle.common.specs.Opcodes as is
 use Rattle.common.specs.Tests.{both, clash}
@@ -24,13 +24,49 @@ at test [] d hd h i = hd
 at test (r ∷ rs) d hd h zero = both (test r) (every test rs) h .0
 at test (r ∷ rs) d hd h (suc i) = at test rs d hd (both (test r) (every test rs) h .1) i
 
--- a and b take 4 bits, low 16
-abbrev small : Row → Bool
-small r = leb (r .a) 15 && leb (r .b) 15 && leb (r .low) 65535
+-- the largest value of a field is 0, or all ones of its 4 or 16 bits
+abbrev pub nibble : ℕ → Bool
+nibble m = eqb m 0 || eqb m 15
 
-row-small : (op : ℕ) → small (row op) ≡ true
+abbrev pub half-word : ℕ → Bool
+half-word m = nibble m || eqb m 65535
+
+abbrev pub full : Row → Bool
+full r = nibble (r .a) && nibble (r .b) && half-word (r .low)
+
+pub row-full : (op : ℕ) → full (row op) ≡ true
 unfolding row
-row-small op = at small table (uses 0 0 0) refl refl op
+row-full op = at full table (uses 0 0 0) refl refl op
+
+pub row-high : (op : ℕ) → 14 ≤ op → row op ≡ uses 0 0 0
+unfolding row
+row-high op h = List·getD-eq-default table (uses 0 0 0) h
+
+-- a and b take 4 bits, low 16
+pub record Small (r : Row) : Type 0 where
+  pub a : r .a ≤ 15
+  pub b : r .b ≤ 15
+  pub low : r .low ≤ 65535
+
+nibble-most : (m : ℕ) → nibble m ≡ true → m ≤ 15
+nibble-most m h = go (eqb m 0) refl
+  where
+    go : (t : Bool) → eqb m 0 ≡ t → m ≤ 15
+    go true e = let z = eqb-true m 0 e in omega arith
+    go false e = let z = eqb-true m 15 (simp e at h) in omega arith
+
+half-word-most : (m : ℕ) → half-word m ≡ true → m ≤ 65535
+half-word-most m h = go (nibble m) refl
+  where
+    go : (t : Bool) → nibble m ≡ t → m ≤ 65535
+    go true e = let z = nibble-most m e in omega arith
+    go false e = let z = eqb-true m 65535 (simp e at h) in omega arith
+
+pub row-small : (op : ℕ) → Small (row op)
+row-small op =
+    let x = both (nibble (row op .a) && nibble (row op .b)) _ (row-full op) in
+    let y = both (nibble (row op .a)) _ (x .0) in
+    record { a = nibble-most _ (y .0); b = nibble-most _ (y .1); low = half-word-most _ (x .1) }
 
 -- ---- what an allowed instruction is, as orders
 
@@ -49,14 +85,10 @@ is-allowed op a b low h =
     let x = both (ltb op is.count && leb a (row op .a) && leb b (row op .b)) _ h in
     let y = both (ltb op is.count && leb a (row op .a)) _ (x .0) in
     let z = both (ltb op is.count) _ (y .0) in
-    let v = both (leb (row op .a) 15 && leb (row op .b) 15) _ (row-small op) in
-    let w = both (leb (row op .a) 15) _ (v .0) in
+    let small = row-small op in
     let ha : a ≤ row op .a = leb-true _ _ (z .1) in
     let hb : b ≤ row op .b = leb-true _ _ (y .1) in
     let hl : low ≤ row op .low = leb-true _ _ (x .1) in
-    let la : row op .a ≤ 15 = leb-true _ _ (w .0) in
-    let lb : row op .b ≤ 15 = leb-true _ _ (w .1) in
-    let ll : row op .low ≤ 65535 = leb-true _ _ (v .1) in
     record {
       known = ltb-true _ _ (z .0);
       a-most = ha;

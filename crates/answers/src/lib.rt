@@ -1,0 +1,57 @@
+// The answers' numbers by name, the same names as in crates/common/specs/Answers.antt.
+// A step or a run: 0 and 1 end well, 2 to 13 are stops, 14 and 15 refuse the state.
+pub const DONE: u32 = 0;
+
+pub const HALT: u32 = 1;
+
+pub const NO_PLACE: u32 = 2;
+
+pub const NO_INSTRUCTION: u32 = 3;
+
+pub const NO_ARRIVAL: u32 = 4;
+
+pub const LOAD_OUTSIDE: u32 = 5;
+
+pub const STORE_OUTSIDE: u32 = 6;
+
+pub const STORE_FORBIDDEN: u32 = 7;
+
+pub const BAD_SET: u32 = 8;
+
+pub const EMPTY_SET: u32 = 9;
+
+pub const NOT_WITHIN: u32 = 10;
+
+pub const NOT_OWNED: u32 = 11;
+
+pub const NO_RETURN: u32 = 12;
+
+pub const NO_NUMBER: u32 = 13;
+
+pub const BAD_FORM: u32 = 14;
+
+pub const BAD_OWNER: u32 = 15;
+
+// The loader; the writer has BAD_SIZE and BAD_ENTRY too.
+pub const NOT_WHOLE: u32 = 20;
+
+pub const BAD_SIZE: u32 = 21;
+
+pub const MANY_REGISTERS: u32 = 22;
+
+pub const LAST_ZERO: u32 = 23;
+
+pub const BAD_ENTRY_COUNT: u32 = 24;
+
+pub const BAD_ENTRY: u32 = 25;
+
+pub const BYTES_LEFT: u32 = 26;
+
+pub const LENGTHS_DIFFER: u32 = 27;
+
+pub const SHORT_MEMORY: u32 = 28;
+
+// The encoder, and the writer.
+pub const NO_WORD: u32 = 30;
+
+pub const SHORT_BUFFER: u32 = 31;

@@ -1,0 +1,10 @@
+-- `lowest` is the lowest number, by the count of trailing zeros.
+use Rattle.compartments.specs.CountLaws.{zeros-lowest}
+use Rattle.compartments.proofs.Set.lowest.Statement.{statement}
+use Rattle.compartments.proofs.Set.lowest.Tie as tie
+
+returns : tie.Need-returns
+returns c = zeros-lowest (c .args .self .0)
+
+pub lowest-spec : {M : Type 1} → statement M
+lowest-spec = tie.close (tie.spec returns)
