@@ -1,0 +1,15 @@
+-- The code's processor record and lent memories, seen as the rules' state.
+use mathlib.Core.List.{List}
+use Prim.Native.Nat.{ℕ}
+use Rattle.rules.specs.State as rules
+use Rattle.machine.specs.declared.Processor.{Processor}
+
+abbrev pub cpuOf : Processor → rules.Processor
+cpuOf p = record { n = p .n; regs = p .regs; pc = p .pc; prev = p .prev; jumped = p .jumped; next = p .next; services = p .services }
+
+abbrev pub processorOf : rules.Processor → Processor
+processorOf p = record { n = p .n; regs = p .regs; pc = p .pc; prev = p .prev; jumped = p .jumped; next = p .next; services = p .services }
+
+-- the record with the words, owners, jumpers and writers lent to a call
+abbrev pub stateOf : Processor → List ℕ → List ℕ → List ℕ → List ℕ → rules.State
+stateOf p words owners jumpers writers = record { cpu = cpuOf p; words = words; owners = owners; jumpers = jumpers; writers = writers }
