@@ -1,0 +1,70 @@
+-- What a call of a monitor service comes to, and what is seen of it.
+use mathlib.Core.Bool.{true, cond}
+use mathlib.Core.List.{List}
+use Prim.Native.Nat.{ℕ}
+use lib.Dec.{eqb}
+use Rattle.common.specs.Answers as answer
+use Rattle.common.specs.Services as service
+use Rattle.common.specs.Instructions.{reg}
+use Rattle.rules.specs.State.{State}
+use Rattle.rules.specs.Checks.{setA, setJ, setS, isolateVerdict, addVerdict}
+use Rattle.rules.specs.Step.{owned, joined, joinedServices, joinAt}
+use Rattle.monitor.specs.declared.Isolated.{Isolated}
+
+-- the caller's numbers and the lent memories, at a service
+abbrev pub called : List ℕ → ℕ → ℕ → ℕ → List ℕ → List ℕ → List ℕ → List ℕ → List ℕ → State
+called regs n caller next services words owners jumpers writers =
+    record {
+      cpu = record { n = n; regs = regs; pc = service.isolate; prev = caller; jumped = true; next = next; services = services };
+      words = words;
+      owners = owners;
+      jumpers = jumpers;
+      writers = writers;
+    }
+
+-- ---- isolate: the answer, the services' sets and the three memories of tags
+
+pub record Isolating : Type 0 where
+  pub answer : ℕ
+  pub services : List ℕ
+  pub owners : List ℕ
+  pub jumpers : List ℕ
+  pub writers : List ℕ
+
+-- where the checks answer 0 the tags change as the rules' `isolated` has it, and else nothing does
+unfoldable pub isolating : State → Isolating
+isolating s =
+    cond (eqb (isolateVerdict s (s .cpu .prev)) answer.done)
+    (record {
+      answer = answer.done;
+      services = joinedServices (setJ s) (s .cpu .next) (s .cpu .services);
+      owners = owned (s .cpu .n) (setA s) (s .cpu .next) (s .owners);
+      jumpers = joined (s .cpu .n) (setJ s) (s .cpu .next) (s .jumpers);
+      writers = joined (s .cpu .n) (setS s) (s .cpu .next) (s .writers);
+    })
+    (record {
+      answer = isolateVerdict s (s .cpu .prev);
+      services = s .cpu .services;
+      owners = s .owners;
+      jumpers = s .jumpers;
+      writers = s .writers;
+    })
+
+abbrev pub isolatingOf : Isolated → List ℕ → List ℕ → List ℕ → Isolating
+isolatingOf r owners jumpers writers =
+    record { answer = r .answer; services = r .services; owners = owners; jumpers = jumpers; writers = writers }
+
+-- ---- add jump target and add store target: the answer, and the memory of sets that the target's is in
+
+pub record Adding : Type 0 where
+  pub answer : ℕ
+  pub sets : List ℕ
+
+unfoldable pub adding : State → List ℕ → Adding
+adding s sets =
+    cond (eqb (addVerdict s (s .cpu .prev)) answer.done)
+    (record { answer = answer.done; sets = joinAt sets (reg (s .cpu .regs) 1) (s .cpu .prev) })
+    (record { answer = addVerdict s (s .cpu .prev); sets = sets })
+
+abbrev pub addingOf : ℕ → List ℕ → Adding
+addingOf answer sets = record { answer = answer; sets = sets }
