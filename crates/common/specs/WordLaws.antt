@@ -217,3 +217,24 @@ decoded-small word =
     (λ (d : Decoded). (d .op < is.count) × (d .a < 16) × (d .b < 16) × (d .low < 65536))
     (λ e. let w = is-allowed _ _ _ _ e in (w .known, w .a-small, w .b-small, w .low-small))
     (λ e. (omega arith, omega arith, omega arith, omega arith))
+
+-- ---- the low 16 bits of an arithmetic instruction are a register
+
+arithmetic-row : (op : ℕ) → is.add ≤ op → op ≤ is.leq → row op .low ≤ 15
+unfolding row
+arithmetic-row zero h k = absurd (omega arith)
+arithmetic-row (suc zero) h k = absurd (omega arith)
+arithmetic-row (suc (suc zero)) h k = absurd (omega arith)
+arithmetic-row (suc (suc (suc zero))) h k = omega arith
+arithmetic-row (suc (suc (suc (suc zero)))) h k = omega arith
+arithmetic-row (suc (suc (suc (suc (suc zero))))) h k = omega arith
+arithmetic-row (suc (suc (suc (suc (suc (suc zero)))))) h k = omega arith
+arithmetic-row (suc (suc (suc (suc (suc (suc (suc zero))))))) h k = omega arith
+arithmetic-row (suc (suc (suc (suc (suc (suc (suc (suc op)))))))) h k = absurd (omega arith)
+
+pub rd-small : (word : ℕ) → decode word .answer ≡ answer.done → is.add ≤ decode word .op → decode word .op ≤ is.leq → decode word .low < 16
+unfolding decode
+rd-small word h =
+    let w = decode-0 word .0 h in
+    let m = w .low-most in
+    simp (allowed-is _ _ _ _ w) (λ k l. let r = arithmetic-row (opOf word) k l in omega arith)

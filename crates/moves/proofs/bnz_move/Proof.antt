@@ -1,0 +1,27 @@
+-- `bnz_move`, case by case.
+use borrow.Author.Tests.{eq-eqb, ne-eqb}
+use Rattle.moves.specs.Moves.{bnzMove}
+use borrow.Author.Needs.{needs}
+use Rattle.moves.proofs.bnz_move.Statement.{statement}
+use Rattle.moves.proofs.bnz_move.Tie as tie
+
+goes-requires : tie.Need-goes-requires
+goes-requires c κs = search needs
+
+returns : tie.Need-returns
+unfolding bnzMove
+returns c = simp (c .goes .ensures, eq-eqb _ _ (c .before .if1 .taken))
+
+branch-target-requires : tie.Need-branch-target-requires
+branch-target-requires c κs = search needs
+
+goes-requires-2 : tie.Need-goes-requires-2
+goes-requires-2 c κs = search needs
+
+returns-2 : tie.Need-returns-2
+unfolding bnzMove
+returns-2 c = simp (c .goes2 .ensures, c .before .branch-target .ensures, ne-eqb _ _ (c .before .before .if1 .left))
+
+pub bnz-move-spec : {M : Type 1} → statement M
+bnz-move-spec =
+    tie.close (tie.spec goes-requires returns branch-target-requires goes-requires-2 returns-2)

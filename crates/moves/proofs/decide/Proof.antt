@@ -1,0 +1,66 @@
+-- `decide`, case by case.
+use Rattle.moves.specs.MoveLaws as law
+use borrow.Author.Needs.{needs}
+use Rattle.moves.proofs.decide.Statement.{statement}
+use Rattle.moves.proofs.decide.Tie as tie
+
+word-at-requires : tie.Need-word-at-requires
+word-at-requires c κs = search needs
+
+is-free-requires : tie.Need-is-free-requires
+is-free-requires c κs = search needs
+
+stop-requires : tie.Need-stop-requires
+stop-requires c κs = search needs
+
+returns : tie.Need-returns
+returns c = law.not-free _ _ _ _ _ _ _ _ _ _ _ (c .before .before .before .word-at .ensures) _ _ (c .before .before .is-free .ensures) (c .before .if1 .taken) (c .stop .ensures)
+
+set-at-requires : tie.Need-set-at-requires
+set-at-requires c κs = search needs
+
+arrives-requires : tie.Need-arrives-requires
+arrives-requires c κs = search needs
+
+stop-requires-2 : tie.Need-stop-requires-2
+stop-requires-2 c κs = search needs
+
+returns-2 : tie.Need-returns-2
+returns-2 c = law.not-come _ _ _ _ _ _ _ _ _ _ _ (c .before .before .before .before .before .before .word-at .ensures) _ _ (c .before .before .before .before .before .is-free .ensures) (c .before .before .before .before .if1 .left) _ (c .before .before .before .set-at .ensures) _ (c .before .before .arrives .ensures) (c .before .if2 .taken) (c .stop2 .ensures)
+
+word-at-requires-2 : tie.Need-word-at-requires-2
+word-at-requires-2 c κs = search needs
+
+decode-requires : tie.Need-decode-requires
+decode-requires c κs = search needs
+
+stop-requires-3 : tie.Need-stop-requires-3
+stop-requires-3 c κs = search needs
+
+returns-3 : tie.Need-returns-3
+returns-3 c = law.no-word _ _ _ _ _ _ _ _ _ _ _ (c .before .before .before .before .before .before .before .before .before .word-at .ensures) _ _ (c .before .before .before .before .before .before .before .before .is-free .ensures) (c .before .before .before .before .before .before .before .if1 .left) _ (c .before .before .before .before .before .before .set-at .ensures) _ (c .before .before .before .before .before .arrives .ensures) (c .before .before .before .before .if2 .left) _ (c .before .before .before .word-at2 .ensures) _ (c .before .before .decode .ensures) (c .before .if3 .taken) (c .stop3 .ensures)
+
+execute-requires : tie.Need-execute-requires
+execute-requires c κs = law.fields-small _ _ (c .before .decode .ensures)
+
+returns-4 : tie.Need-returns-4
+returns-4 c = law.a-word _ _ _ _ _ _ _ _ _ _ _ (c .before .before .before .before .before .before .before .before .before .word-at .ensures) _ _ (c .before .before .before .before .before .before .before .before .is-free .ensures) (c .before .before .before .before .before .before .before .if1 .left) _ (c .before .before .before .before .before .before .set-at .ensures) _ (c .before .before .before .before .before .arrives .ensures) (c .before .before .before .before .if2 .left) _ (c .before .before .before .word-at2 .ensures) _ (c .before .before .decode .ensures) (c .before .if3 .left) (c .execute .ensures)
+
+pub decide-spec : {M : Type 1} → statement M
+decide-spec =
+    tie.close
+    (tie.spec
+    word-at-requires
+    is-free-requires
+    stop-requires
+    returns
+    set-at-requires
+    arrives-requires
+    stop-requires-2
+    returns-2
+    word-at-requires-2
+    decode-requires
+    stop-requires-3
+    returns-3
+    execute-requires
+    returns-4)

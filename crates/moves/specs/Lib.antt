@@ -1,0 +1,4 @@
+pub mod Moves
+pub mod LeafLaws
+pub mod MoveLaws
+pub mod Applied

@@ -1,0 +1,93 @@
+-- Moves: what the instruction at pc will write, case by case in the code's order.
+use mathlib.Core.Bool.{Bool, true, false, cond, _&&_, _||_, not}
+use mathlib.Core.List.{List}
+use Prim.Native.Nat.{ℕ}
+use lib.Dec.{ltb, leb, eqb}
+use lib.ListN.{getD, set}
+use Rattle.common.specs.Answers as answer
+use Rattle.common.specs.Opcodes as is
+use Rattle.common.specs.Words.{Decoded, decode}
+use Rattle.common.specs.Instructions.{reg, plus, arithmetic, branch}
+use Rattle.common.specs.Services.{isServiceNumber}
+use Rattle.rules.specs.Compartments.{member}
+use Rattle.rules.specs.State.{State}
+use Rattle.moves.specs.declared.Move.{Move}
+
+-- no register, and no place
+abbrev pub no-register : ℕ
+no-register = 16
+
+abbrev pub nowhere : ℕ
+nowhere = 4294967295
+
+abbrev pub stop : ℕ → ℕ → Move
+stop answer owner =
+    record { answer = answer; rd = no-register; value = 0; place = nowhere; word = 0; pc = 0; owner = owner; jumped = false }
+
+abbrev pub puts : ℕ → ℕ → ℕ → ℕ → Move
+puts owner pc rd value =
+    record { answer = answer.done; rd = rd; value = value; place = nowhere; word = 0; pc = pc; owner = owner; jumped = false }
+
+abbrev pub goes : ℕ → ℕ → Move
+goes owner pc = puts owner pc no-register 0
+
+abbrev pub stores : ℕ → ℕ → ℕ → ℕ → Move
+stores owner pc place word =
+    record { answer = answer.done; rd = no-register; value = 0; place = place; word = word; pc = pc; owner = owner; jumped = false }
+
+abbrev pub leaps : ℕ → ℕ → ℕ → ℕ → Move
+leaps owner pc rd value =
+    record { answer = answer.done; rd = rd; value = value; place = nowhere; word = 0; pc = pc; owner = owner; jumped = true }
+
+-- ---- the tests at a word
+
+unfoldable pub free : ℕ → ℕ → Bool
+free owner next = not (isServiceNumber owner || leb next owner)
+
+unfoldable pub arrivesAt : ℕ → ℕ → Bool → ℕ → Bool
+arrivesAt owner prev jumped jumpers = eqb owner prev || (jumped && member jumpers prev)
+
+unfoldable pub mayStoreAt : ℕ → ℕ → ℕ → Bool
+mayStoreAt owner target writers = eqb target owner || member writers owner
+
+-- ---- the move of an instruction of an owner at pc
+
+unfoldable pub loadMove : ℕ → ℕ → ℕ → ℕ → ℕ → List ℕ → Move
+loadMove owner on rd x n words = cond (ltb x n) (puts owner on rd (getD words x 0)) (stop answer.load-outside owner)
+
+unfoldable pub storeMove : ℕ → ℕ → ℕ → ℕ → ℕ → List ℕ → List ℕ → Move
+storeMove owner on x y n owners writers =
+    cond (ltb x n)
+    (cond (mayStoreAt owner (getD owners x 0) (getD writers x 0)) (stores owner on x y) (stop answer.store-forbidden owner))
+    (stop answer.store-outside owner)
+
+unfoldable pub bnzMove : ℕ → ℕ → ℕ → ℕ → ℕ → Move
+bnzMove owner on pc low x = cond (eqb x 0) (goes owner on) (goes owner (branch pc low))
+
+unfoldable pub instructionMove : Decoded → List ℕ → ℕ → ℕ → ℕ → List ℕ → List ℕ → List ℕ → Move
+instructionMove i regs pc owner n words owners writers =
+    let on = plus pc 1 in
+    let x = reg regs (i .a) in
+    let y = reg regs (i .b) in
+    cond (eqb (i .op) is.const) (puts owner on (i .a) (i .low))
+    (cond (eqb (i .op) is.mov) (puts owner on (i .b) x)
+    (cond (leb is.add (i .op) && leb (i .op) is.leq) (puts owner on (i .low) (arithmetic (i .op) x y))
+    (cond (eqb (i .op) is.load) (loadMove owner on (i .b) x n words)
+    (cond (eqb (i .op) is.store) (storeMove owner on x y n owners writers)
+    (cond (eqb (i .op) is.jump) (leaps owner x no-register 0)
+    (cond (eqb (i .op) is.jal) (leaps owner x 15 on)
+    (cond (eqb (i .op) is.bnz) (bnzMove owner on pc (i .low) x)
+    (cond (eqb (i .op) is.halt) (stop answer.halt owner) (goes owner on)))))))))
+
+-- 3, then the instruction
+unfoldable pub wordMove : Decoded → List ℕ → ℕ → ℕ → ℕ → List ℕ → List ℕ → List ℕ → Move
+wordMove i regs pc owner n words owners writers =
+    cond (eqb (i .answer) answer.done) (instructionMove i regs pc owner n words owners writers) (stop answer.no-instruction owner)
+
+-- at a memory word: 15, 4, then the word
+unfoldable pub moveOf : List ℕ → ℕ → ℕ → Bool → ℕ → ℕ → List ℕ → List ℕ → List ℕ → List ℕ → Move
+moveOf regs pc prev jumped next n words owners jumpers writers =
+    let owner = getD owners pc 0 in
+    cond (free owner next)
+    (cond (arrivesAt owner prev jumped (getD jumpers pc 0)) (wordMove (decode (getD words pc 0)) regs pc owner n words owners writers) (stop answer.no-arrival owner))
+    (stop answer.bad-owner owner)

@@ -1,0 +1,259 @@
+// What the instruction at pc will write, decided by reading alone.
+ghost use mathlib.Core.Path.{_≡_};
+ghost use Prim.Native.Nat.{_<_};
+ghost use lib.ListN.{getD};
+ghost use Rattle.common.specs.Instructions.{arithmetic, branch};
+ghost use Rattle.instructions.specs.Promises.{decoded};
+ghost use Rattle.moves.specs.Moves as is;
+use instructions::Decoded;
+
+// A register to write (16: none) and its value; a place to store to (4294967295: none) and its word; then pc, the owner and the flag.
+pub struct Move {
+    pub answer: u32,
+    pub rd: u32,
+    pub value: u32,
+    pub place: u32,
+    pub word: u32,
+    pub pc: u32,
+    pub owner: u32,
+    pub jumped: bool,
+}
+
+// No register, and no place: N is never above 2,048.
+const NO_REGISTER: u32 = 16;
+
+const NOWHERE: u32 = 4294967295;
+
+// Nothing is written; every move tells the instruction's owner.
+fn stop(answer: u32, owner: u32) -> Move
+    ensures { λ r. ⌜ r ≡ is.stop answer owner ⌝ }
+{
+    Move {
+        answer,
+        rd: NO_REGISTER,
+        value: 0,
+        place: NOWHERE,
+        word: 0,
+        pc: 0,
+        owner,
+        jumped: false,
+    }
+}
+
+fn puts(owner: u32, pc: u32, rd: u32, value: u32) -> Move
+    ensures { λ r. ⌜ r ≡ is.puts owner pc rd value ⌝ }
+{
+    Move {
+        answer: answers::DONE,
+        rd,
+        value,
+        place: NOWHERE,
+        word: 0,
+        pc,
+        owner,
+        jumped: false,
+    }
+}
+
+fn goes(owner: u32, pc: u32) -> Move
+    ensures { λ r. ⌜ r ≡ is.goes owner pc ⌝ }
+{
+    puts(owner, pc, NO_REGISTER, 0)
+}
+
+fn stores(owner: u32, pc: u32, place: u32, word: u32) -> Move
+    ensures { λ r. ⌜ r ≡ is.stores owner pc place word ⌝ }
+{
+    Move {
+        answer: answers::DONE,
+        rd: NO_REGISTER,
+        value: 0,
+        place,
+        word,
+        pc,
+        owner,
+        jumped: false,
+    }
+}
+
+fn leaps(owner: u32, pc: u32, rd: u32, value: u32) -> Move
+    ensures { λ r. ⌜ r ≡ is.leaps owner pc rd value ⌝ }
+{
+    Move {
+        answer: answers::DONE,
+        rd,
+        value,
+        place: NOWHERE,
+        word: 0,
+        pc,
+        owner,
+        jumped: true,
+    }
+}
+
+fn reg(regs: &[u32; 16], i: u32) -> u32
+    requires { ⌜ i < 16 ⌝ }
+    ensures { λ r. ⌜ r ≡ getD (now (regs .entry)) i 0 ⌝ }
+{
+    let j = i as usize;
+    regs[j]
+}
+
+// Add, Sub, Mul, Eq and Leq: opcodes 3 to 7.
+fn arith(op: u32, x: u32, y: u32) -> u32
+    ensures { λ r. ⌜ r ≡ arithmetic op x y ⌝ }
+{
+    match op {
+        3 => std::num::wrapping_add_u32(x, y),
+        4 => std::num::wrapping_sub_u32(x, y),
+        5 => ((x as u64) * (y as u64) % 4294967296) as u32,
+        6 => { if x == y { 1 } else { 0 } }
+        _ => { if x <= y { 1 } else { 0 } }
+    }
+}
+
+// pc and an offset of 16 bits in two's complement.
+fn branch_target(pc: u32, low: u32) -> u32
+    ensures { λ r. ⌜ r ≡ branch pc low ⌝ }
+{
+    if low < 32768 {
+        return std::num::wrapping_add_u32(pc, low);
+    }
+    if low < 65536 {
+        return std::num::wrapping_sub_u32(pc, 65536 - low);
+    }
+    pc
+}
+
+// 15: whether an owner is 0, or from 4 to below next.
+fn is_free(owner: u32, next: u32) -> bool
+    ensures { λ r. ⌜ r ≡ is.free owner next ⌝ }
+{
+    if next <= owner {
+        return false;
+    }
+    if owner == 0 {
+        return true;
+    }
+    owner >= 4
+}
+
+// 4: whether a step may arrive at a word of this owner and these jumpers.
+fn arrives(owner: u32, prev: u32, jumped: bool, jumpers: u64) -> bool
+    ensures { λ r. ⌜ r ≡ is.arrivesAt owner prev jumped jumpers ⌝ }
+{
+    if owner == prev {
+        return true;
+    }
+    if !jumped {
+        return false;
+    }
+    compartments::Set(jumpers).contains(prev)
+}
+
+// 7: whether a compartment owns the target or is among its writers.
+fn may_store(owner: u32, target: u32, writers: u64) -> bool
+    ensures { λ r. ⌜ r ≡ is.mayStoreAt owner target writers ⌝ }
+{
+    if target == owner {
+        return true;
+    }
+    compartments::Set(writers).contains(owner)
+}
+
+fn load_move(owner: u32, on: u32, rd: u32, x: u32, n: u32, words: &[u32]) -> Move
+    ensures { λ r. ⌜ r ≡ is.loadMove owner on rd x n (now (words .entry)) ⌝ }
+{
+    if n <= x {
+        return stop(answers::LOAD_OUTSIDE, owner);
+    }
+    puts(owner, on, rd, memory::word_at(words, x))
+}
+
+fn store_move(owner: u32, on: u32, x: u32, y: u32, n: u32, owners: &[u32], writers: &[u64]) -> Move
+    ensures { λ r. ⌜ r ≡ is.storeMove owner on x y n (now (owners .entry)) (now (writers .entry)) ⌝ }
+{
+    if n <= x {
+        return stop(answers::STORE_OUTSIDE, owner);
+    }
+    if !may_store(
+        owner,
+        memory::word_at(owners, x),
+        memory::set_at(writers, x),
+    ) {
+        return stop(answers::STORE_FORBIDDEN, owner);
+    }
+    stores(owner, on, x, y)
+}
+
+fn bnz_move(owner: u32, on: u32, pc: u32, low: u32, x: u32) -> Move
+    ensures { λ r. ⌜ r ≡ is.bnzMove owner on pc low x ⌝ }
+{
+    if x == 0 {
+        return goes(owner, on);
+    }
+    goes(owner, branch_target(pc, low))
+}
+
+// The instruction of an owner at pc. No word decodes to an opcode above 13.
+fn execute(
+    i: Decoded,
+    regs: &[u32; 16],
+    pc: u32,
+    owner: u32,
+    n: u32,
+    words: &[u32],
+    owners: &[u32],
+    writers: &[u64],
+) -> Move
+    requires { ⌜ (i .a < 16) × (i .b < 16) ⌝ }
+    ensures { λ r. ⌜ r ≡ is.instructionMove (decoded i) (now (regs .entry)) pc owner n (now (words .entry)) (now (owners .entry)) (now (writers .entry)) ⌝ }
+{
+    let on = std::num::wrapping_add_u32(pc, 1);
+    let x = reg(regs, i.a);
+    let y = reg(regs, i.b);
+    let op = i.op;
+    match op {
+        0 => goes(owner, on),
+        1 => puts(owner, on, i.a, i.low),
+        2 => puts(owner, on, i.b, x),
+        3..=7 => puts(owner, on, i.low, arith(op, x, y)),
+        8 => load_move(owner, on, i.b, x, n, words),
+        9 => store_move(owner, on, x, y, n, owners, writers),
+        10 => leaps(owner, x, NO_REGISTER, 0),
+        11 => leaps(owner, x, 15, on),
+        12 => bnz_move(owner, on, pc, i.low, x),
+        13 => stop(answers::HALT, owner),
+        _ => goes(owner, on),
+    }
+}
+
+// At a memory word: 15, 4, 3, then the instruction.
+pub fn decide(
+    regs: &[u32; 16],
+    pc: u32,
+    prev: u32,
+    jumped: bool,
+    next: u32,
+    n: u32,
+    words: &[u32],
+    owners: &[u32],
+    jumpers: &[u64],
+    writers: &[u64],
+) -> Move
+    ensures { λ r. ⌜ r ≡ is.moveOf (now (regs .entry)) pc prev jumped next n (now (words .entry)) (now (owners .entry)) (now (jumpers .entry)) (now (writers .entry)) ⌝ }
+{
+    let owner = memory::word_at(owners, pc);
+    if !is_free(owner, next) {
+        return stop(answers::BAD_OWNER, owner);
+    }
+    if !arrives(owner, prev, jumped, memory::set_at(jumpers, pc)) {
+        return stop(answers::NO_ARRIVAL, owner);
+    }
+    let i = instructions::decode(memory::word_at(words, pc));
+    let answer = i.answer;
+    if answer != answers::DONE {
+        return stop(answers::NO_INSTRUCTION, owner);
+    }
+    execute(i, regs, pc, owner, n, words, owners, writers)
+}
