@@ -4,6 +4,7 @@ pub mod State
 pub mod Checks
 pub mod Step
 pub mod Run
+pub mod Formed
 pub mod Images
 pub mod SheetImages
 pub mod Lines
