@@ -4,6 +4,9 @@ pub mod State
 pub mod Checks
 pub mod Step
 pub mod Run
+pub mod StepLaws
+pub mod Stays
+pub mod Additive
 pub mod Images
 pub mod SheetImages
 pub mod Lines
