@@ -4,9 +4,13 @@ pub mod State
 pub mod Checks
 pub mod Step
 pub mod Run
+pub mod FormLaws
 pub mod StepLaws
 pub mod Stays
 pub mod Additive
+pub mod Cascades
+pub mod Numbers
 pub mod Images
+pub mod ImageNumbers
 pub mod SheetImages
 pub mod Lines

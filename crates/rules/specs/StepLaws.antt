@@ -4,12 +4,11 @@ use mathlib.Core.Bool.{Bool, true, false, cond}
 use Prim.Native.Nat.{ℕ, suc}
 use native.Mathlib.Omega.{arith}
 use borrow.Author.Tests.{ne-eqb}
-use lib.Dec.{eqb}
 use Rattle.common.specs.Answers as answer
 use Rattle.rules.specs.State.{State}
 use Rattle.rules.specs.Checks.{verdict}
 use Rattle.rules.specs.Step.{commit, step}
-use Rattle.rules.specs.Run.{Ran, oneMore, ended, run}
+use Rattle.rules.specs.Run.{oneMore, ended, run}
 
 -- ---- a step
 
