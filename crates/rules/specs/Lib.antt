@@ -1,5 +1,6 @@
 pub mod Compartments
 pub mod CompartmentLaws
+pub mod Meaning
 pub mod State
 pub mod Checks
 pub mod Step
