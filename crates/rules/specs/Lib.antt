@@ -14,4 +14,6 @@ pub mod Numbers
 pub mod Images
 pub mod ImageNumbers
 pub mod SheetImages
+pub mod TagLaws
 pub mod Lines
+pub mod LineProofs
