@@ -214,7 +214,7 @@ module _ (u : Processor) (w o j r w′ o′ j′ r′ : List ℕ) where
         go false false e f = add (eqb (u .pc) add-jump-target) refl
           where
             l : ltb (reg (u .regs) 1) (u .n) ≡ true
-            l = add-inside s h e (simp (e, f) at rest)
+            l = add-inside s h e (simp (e, f) at rest) .named
 
             add : (d : Bool) → eqb (u .pc) add-jump-target ≡ d → Alike (commit s) (commit t)
             add true g = simp (e, f, g) (jump-added-alike l)

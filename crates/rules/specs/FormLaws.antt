@@ -1,15 +1,15 @@
 -- What passing check 14 says of a state, as lengths and orders; and where the services stand.
-use mathlib.Core.Path.{_≡_}
-use mathlib.Core.Bool.{true, false, _&&_}
+use mathlib.Core.Path.{_≡_, refl}
+use mathlib.Core.Bool.{Bool, true, false, _&&_}
 use Prim.Native.Nat.{ℕ, _-_, _≤_, _<_}
 use native.Mathlib.Omega.{arith}
-use borrow.Author.Tests.{ltb-true, leb-true, eqb-true, le-leb, eq-eqb, le-ltb}
+use borrow.Author.Tests.{ltb-true, leb-true, leb-false, eqb-true, le-leb, lt-ltb, le-ltb}
 use lib.Dec.{leb, eqb}
 use lib.ListN.{length}
-use Rattle.common.specs.Tests.{both}
+use Rattle.common.specs.Tests.{both, clash}
 use Rattle.common.specs.Services.{isolate, serviceCount, isService, serviceAt, isServiceNumber}
-use Rattle.rules.specs.State.{State, firstNumber, inMemory, hasOwner}
-use Rattle.rules.specs.Checks.{sameLengths, sized, numbered, seated, formed}
+use Rattle.rules.specs.State.{State, firstNumber, inMemory, hasOwner, ownerAt}
+use Rattle.rules.specs.Checks.{sameLengths, sized, numbered, seated, formed, badOwner}
 
 -- ---- the parts of 14
 
@@ -38,18 +38,6 @@ is-sized s h =
       lent = leb-true _ _ (a .1);
     }
 
-pub sized-is : (s : State) → Sized s → sized s ≡ true
-unfolding sized sameLengths
-sized-is s z =
-    simp (
-      eq-eqb _ _ (z .owners),
-      eq-eqb _ _ (z .jumpers),
-      eq-eqb _ _ (z .writers),
-      le-leb _ _ (z .some),
-      le-leb _ _ (z .most),
-      le-leb _ _ (z .lent),
-    )
-
 pub record Numbered (s : State) : Type 0 where
   pub low : 4 ≤ s .cpu .next
   pub high : s .cpu .next ≤ 64
@@ -61,6 +49,10 @@ is-numbered s h =
     let a = both (leb firstNumber (s .cpu .next) && leb (s .cpu .next) 64) _ h in
     let b = both (leb firstNumber (s .cpu .next)) _ (a .0) in
     record { low = leb-true _ _ (b .0); high = leb-true _ _ (b .1); prev = ltb-true _ _ (a .1) }
+
+pub numbered-is : (s : State) → Numbered s → numbered s ≡ true
+unfolding numbered firstNumber serviceCount
+numbered-is s n = simp (le-leb firstNumber (s .cpu .next) (n .low), le-leb (s .cpu .next) 64 (n .high), lt-ltb (s .cpu .prev) (s .cpu .next) (n .prev))
 
 pub record Form (s : State) : Type 0 where
   pub sized : sized s ≡ true
@@ -100,3 +92,18 @@ at-service s h e = simp e at h
 pub outside : (s : State) → formed s ≡ true → (x : ℕ) → 2048 ≤ x → inMemory s x ≡ false
 unfolding inMemory
 outside s h x l = let m : s .cpu .n ≤ 2048 = n-most s h in le-ltb x (s .cpu .n) (omega arith)
+
+-- ---- what passing 15 says
+
+pub record GoodOwner (s : State) : Type 0 where
+  pub plain : isServiceNumber (ownerAt s (s .cpu .pc)) ≡ false
+  pub below : ownerAt s (s .cpu .pc) < s .cpu .next
+
+pub good-owner : (s : State) → inMemory s (s .cpu .pc) ≡ true → badOwner s ≡ false → GoodOwner s
+unfolding badOwner
+good-owner s e h = go (isServiceNumber (ownerAt s (s .cpu .pc))) (leb (s .cpu .next) (ownerAt s (s .cpu .pc))) refl refl
+  where
+    go : (a b : Bool) → isServiceNumber (ownerAt s (s .cpu .pc)) ≡ a → leb (s .cpu .next) (ownerAt s (s .cpu .pc)) ≡ b → GoodOwner s
+    go false false p q = record { plain = p; below = leb-false _ _ q }
+    go true b p q = let z : true ≡ false = simp (e, p) at h in clash refl z
+    go false true p q = let z : true ≡ false = simp (e, p, q) at h in clash refl z

@@ -1,5 +1,5 @@
 -- "Numbers are never used again": next never falls, and grows by one exactly at an isolate that ran; N, the registers and the services stay as many as they were.
-use mathlib.Core.Path.{_≡_, refl, sym, ap, _∙_}
+use mathlib.Core.Path.{_≡_, refl, sym, _∙_}
 use mathlib.Core.Bool.{Bool, true, false, cond, _&&_}
 use mathlib.Core.List.{List}
 use mathlib.Core.Logic.{_↔_}
@@ -9,11 +9,10 @@ use borrow.Author.Tests.{eqb-true, eq-eqb}
 use lib.Dec.{eqb}
 use lib.ListN.{length, length-set}
 use Rattle.common.specs.Answers as answer
-use Rattle.common.specs.Opcodes as is
 use Rattle.common.specs.Words.{Decoded}
 use Rattle.common.specs.Instructions.{regsAfter}
 use Rattle.common.specs.Services.{isolate}
-use Rattle.common.specs.Tests.{both, clash}
+use Rattle.common.specs.Tests.{both}
 use Rattle.rules.specs.State.{State, inMemory}
 use Rattle.rules.specs.Checks.{verdict}
 use Rattle.rules.specs.Step.{ranInstruction, joinedServices, isolated, jumpAdded, storeAdded, ranService, commit, step}
@@ -75,8 +74,11 @@ pub record SameSizes (s t : State) : Type 0 where
   pub registers : length (t .cpu .regs) ≡ length (s .cpu .regs)
   pub services : length (t .cpu .services) ≡ length (s .cpu .services)
 
-same : (s : State) → SameSizes s s
-same s = record { n = refl; registers = refl; services = refl }
+pub same-sizes : (s : State) → SameSizes s s
+same-sizes s = record { n = refl; registers = refl; services = refl }
+
+pub same-sizes-then : (s t u : State) → SameSizes s t → SameSizes t u → SameSizes s u
+same-sizes-then s t u a b = record { n = b .n ∙ a .n; registers = b .registers ∙ a .registers; services = b .services ∙ a .services }
 
 length-cond : (b : Bool) (l m : List ℕ) → length (cond b l m) ≡ cond b (length l) (length m)
 length-cond true l m = refl
@@ -97,10 +99,8 @@ services-length s = length-map _ 0 (s .cpu .services)
 pub step-same-sizes : (s : State) → SameSizes s (step s .state)
 unfolding ranInstruction isolated jumpAdded storeAdded
 step-same-sizes s =
-    step-cases s (SameSizes s) (same s) (λ v. record { n = refl; registers = regs-length _ (s .cpu .pc) (s .cpu .regs) (s .words); services = refl })
-    (λ v. record { n = refl; registers = refl; services = services-length s }) (λ h. record { n = refl; registers = refl; services = refl }) (λ h. record { n = refl; registers = refl; services = refl })
+    step-cases s (SameSizes s) (same-sizes s) (λ p m v. record { n = refl; registers = regs-length _ (s .cpu .pc) (s .cpu .regs) (s .words); services = refl })
+    (λ p m v. record { n = refl; registers = refl; services = services-length s }) (λ p m a. (record { n = refl; registers = refl; services = refl }, record { n = refl; registers = refl; services = refl }))
 
 pub run-same-sizes : (k : ℕ) (s : State) → SameSizes s (run k s .state)
-run-same-sizes k s =
-    run-keeps (SameSizes s)
-    (λ t h. let l = step-same-sizes t in record { n = l .n ∙ h .n; registers = l .registers ∙ h .registers; services = l .services ∙ h .services }) k s (same s)
+run-same-sizes k s = run-keeps (SameSizes s) (λ t h. same-sizes-then s t (step t .state) h (step-same-sizes t)) k s (same-sizes s)

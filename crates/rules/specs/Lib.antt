@@ -15,8 +15,9 @@ pub mod Images
 pub mod ImageNumbers
 pub mod SheetImages
 pub mod TagLaws
-pub mod Rest
 pub mod Grows
+pub mod Rest
+pub mod Formed
 pub mod BelowLaws
 pub mod Alike
 pub mod Lines

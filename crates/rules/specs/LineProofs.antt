@@ -1,11 +1,11 @@
 -- The proof of the table of lines marked P: `lines`, one claim for all eight.
-use mathlib.Core.Path.{_≡_, refl, ap, _∙_}
-use mathlib.Core.Bool.{Bool, true, false, cond, _&&_, and-false, or-true}
+use mathlib.Core.Path.{_≡_, refl, ap, _∙_, subst}
+use mathlib.Core.Bool.{true, false, cond, or-true}
 use mathlib.Core.List.{List}
-use Prim.Native.Nat.{ℕ, suc, _≤_, _<_}
+use Prim.Native.Nat.{ℕ, suc, _≤_}
 use native.Mathlib.Omega.{arith}
-use borrow.Author.Tests.{ltb-true, leb-false, lt-ltb, le-leb, le-ltb, eq-eqb, ne-eqb}
-use lib.Dec.{ltb, leb, eqb}
+use borrow.Author.Tests.{ltb-true, lt-ltb, le-ltb, eq-eqb, ne-eqb}
+use lib.Dec.{ltb, eqb}
 use lib.ListN.{getD, length}
 use lib.Seq.{getD-set-same}
 use Rattle.common.specs.Answers as answer
@@ -14,15 +14,15 @@ use Rattle.common.specs.Words.{row, allowed, Decoded, instruction, decode}
 use Rattle.common.specs.Instructions.{offset, displaced, branch, reg, arithmetic, pcAfter, regsAfter, wordsAfter, jumps}
 use Rattle.common.specs.Services.{isolate, serviceCount, isService, serviceAt, isServiceNumber}
 use Rattle.common.specs.AddressSets.{isEmpty, inSet}
-use Rattle.common.specs.Tests.{clash}
 use Rattle.rules.specs.Compartments.{member, insert, services}
 use Rattle.rules.specs.CompartmentLaws.{member-services, member-main}
 use Rattle.rules.specs.State.{State, firstNumber, inMemory, hasOwner, ownerAt, jumpersAt, writersAt, owns, mayJump, mayStore}
 use Rattle.rules.specs.Checks.{sameLengths, sized, numbered, seated, formed, badOwner, arrives, instructionAt, instructionVerdict, wordVerdict, setA, setJ, goodSets, setsWithin, returns, isolateVerdict, serviceVerdict, verdict}
 use Rattle.rules.specs.Step.{ranInstruction, mapFrom, below, joined, isolated, ranService, commit, Stepped, step}
 use Rattle.rules.specs.Run.{run}
-use Rattle.rules.specs.FormLaws.{is-sized, is-numbered, is-formed, outside}
+use Rattle.rules.specs.FormLaws.{is-sized, is-formed, outside}
 use Rattle.rules.specs.StepLaws.{answer-is, step-runs}
+use Rattle.rules.specs.Formed.{step-formed}
 use Rattle.rules.specs.TagLaws.{getD-map, member-insert-if}
 use Rattle.rules.specs.Lines.{Sum, At, Back, TagsAsLoaded, Call, Called, Full, table, All}
 
@@ -55,26 +55,6 @@ sum s l a b = (
 
 -- ---- row 6
 
--- the state that an instruction other than Store leaves passes 14, if the instruction's owner may be at the new pc
-ran-formed : (s : State) (c : ℕ) (i : Decoded) → formed s ≡ true → c < s .cpu .next → eqb (i .op) is.store ≡ false
-    → (isServiceNumber c && isService (pcAfter i (s .cpu .pc) (s .cpu .regs))) ≡ false → formed (ranInstruction s c i) ≡ true
-unfolding formed sized sameLengths numbered seated firstNumber serviceCount ranInstruction wordsAfter
-ran-formed s c i h l o k =
-    let f = is-formed s h in
-    let z : sized s ≡ true = f .sized in
-    let n = is-numbered s (f .numbered) in
-    simp (o, z, le-leb firstNumber (s .cpu .next) (n .low), le-leb (s .cpu .next) 64 (n .high), lt-ltb c (s .cpu .next) l, k)
-
--- what passed 15 has an owner below next
-owner-below : (s : State) → inMemory s (s .cpu .pc) ≡ true → badOwner s ≡ false → ownerAt s (s .cpu .pc) < s .cpu .next
-unfolding badOwner
-owner-below s e h = go (isServiceNumber (ownerAt s (s .cpu .pc))) (leb (s .cpu .next) (ownerAt s (s .cpu .pc))) refl refl
-  where
-    go : (a b : Bool) → isServiceNumber (ownerAt s (s .cpu .pc)) ≡ a → leb (s .cpu .next) (ownerAt s (s .cpu .pc)) ≡ b → ownerAt s (s .cpu .pc) < s .cpu .next
-    go a false p q = leb-false _ _ q
-    go true true p q = let z : true ≡ false = simp (e, p, q) at h in clash refl z
-    go false true p q = let z : true ≡ false = simp (e, p, q) at h in clash refl z
-
 no-place : (s : State) → formed s ≡ true → hasOwner s (s .cpu .pc) ≡ false → step s .answer ≡ answer.no-place
 unfolding verdict
 no-place s h o = answer-is s ∙ simp (h, o)
@@ -86,10 +66,6 @@ back-pc regs h = simp (ne-eqb (reg regs 1) 0 h)
 far : isService 4294967295 ≡ false
 unfolding isService serviceCount
 far = refl
-
-not-store : eqb (decode 0x0C10FFFF .op) is.store ≡ false
-unfolding decode row allowed
-not-store = refl
 
 back-ready : (s : State) (c : ℕ) → (decode 0x0C10FFFF .answer ≡ answer.done) × (instructionVerdict s c (decode 0x0C10FFFF) ≡ answer.done)
 unfolding decode row allowed instructionVerdict
@@ -105,18 +81,14 @@ nobody s h e = simp (outside s h (s .cpu .pc) (omega arith)) (ap isService e ∙
 
 back : Back
 back s h z r =
-    let c : ℕ = ownerAt s (s .cpu .pc) in
-    let i : Decoded = decode 0x0C10FFFF in
+    let t : State = ranInstruction s (ownerAt s (s .cpu .pc)) (decode 0x0C10FFFF) in
     let k = back-ready s (ownerAt s (s .cpu .pc)) in
     let e = at-step s 0x0C10FFFF h (k .0) (k .1) in
-    let p : pcAfter i (s .cpu .pc) (s .cpu .regs) ≡ 4294967295 = ap (λ (x : ℕ). pcAfter i x (s .cpu .regs)) z ∙ back-pc (s .cpu .regs) r in
-    let q : (isServiceNumber c && isService (pcAfter i (s .cpu .pc) (s .cpu .regs))) ≡ false =
-    ap (λ (x : ℕ). isServiceNumber c && isService x) p ∙ ap (λ (b : Bool). isServiceNumber c && b) far ∙ and-false (isServiceNumber c) in
-    let g : formed (ranInstruction s c i) ≡ true = ran-formed s c i (h .formed) (owner-below s (h .memory) (h .owner)) not-store q in
-    let t : ranInstruction s c i .cpu .pc ≡ 4294967295 = ran-pc s c i ∙ p in (
-      ap (λ (x : Stepped). x .answer) e,
-      ap (λ (x : Stepped). x .state .cpu .pc) e ∙ t,
-      ap (λ (x : Stepped). step (x .state) .answer) e ∙ no-place (ranInstruction s c i) g (nobody (ranInstruction s c i) g t),
+    let p : t .cpu .pc ≡ 4294967295 = ran-pc s _ _ ∙ ap (λ (x : ℕ). pcAfter (decode 0x0C10FFFF) x (s .cpu .regs)) z ∙ back-pc (s .cpu .regs) r in
+    let f : formed t ≡ true = subst (λ (o : Stepped). formed (o .state) ≡ true) e (step-formed s (h .formed)) in (
+      ap (λ (o : Stepped). o .answer) e,
+      ap (λ (o : Stepped). o .state .cpu .pc) e ∙ p,
+      ap (λ (o : Stepped). step (o .state) .answer) e ∙ no-place t f (nobody t f p),
     )
 
 -- ---- isolate is called and the checks before 12 pass

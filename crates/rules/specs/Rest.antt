@@ -18,6 +18,7 @@ use Rattle.rules.specs.Checks.{sameLengths, sized, target, wordVerdict}
 use Rattle.rules.specs.Step.{ranInstruction, owned, joined, joinAt, isolated, jumpAdded, storeAdded, step}
 use Rattle.rules.specs.Run.{run}
 use Rattle.rules.specs.StepLaws.{store-inside, step-cases, run-keeps}
+use Rattle.rules.specs.Grows.{SameSizes, same-sizes, same-sizes-then, step-same-sizes, run-same-sizes}
 use Rattle.rules.specs.TagLaws.{length-map, drop-map}
 
 -- ---- one memory, before and after
@@ -59,7 +60,6 @@ join-rest s l x c h = record { rest = drop-set-lt (s .cpu .n) l x _ (ltb-true _ 
 -- ---- a state, before and after
 
 pub record Kept (s t : State) : Type 0 where
-  pub n : t .cpu .n ≡ s .cpu .n
   pub words : Untouched (s .cpu .n) (s .words) (t .words)
   pub owners : Untouched (s .cpu .n) (s .owners) (t .owners)
   pub jumpers : Untouched (s .cpu .n) (s .jumpers) (t .jumpers)
@@ -67,22 +67,15 @@ pub record Kept (s t : State) : Type 0 where
 
 kept : (s : State) → Kept s s
 kept s =
-    record {
-      n = refl;
-      words = untouched _ (s .words);
-      owners = untouched _ (s .owners);
-      jumpers = untouched _ (s .jumpers);
-      writers = untouched _ (s .writers);
-    }
+    record { words = untouched _ (s .words); owners = untouched _ (s .owners); jumpers = untouched _ (s .jumpers); writers = untouched _ (s .writers) }
 
-kept-then : (s t u : State) → Kept s t → Kept t u → Kept s u
-kept-then s t u a b =
+kept-then : (s t u : State) → t .cpu .n ≡ s .cpu .n → Kept s t → Kept t u → Kept s u
+kept-then s t u e a b =
     record {
-      n = b .n ∙ a .n;
-      words = untouched-then _ _ _ _ (a .words) (subst (λ (n : ℕ). Untouched n (t .words) (u .words)) (a .n) (b .words));
-      owners = untouched-then _ _ _ _ (a .owners) (subst (λ (n : ℕ). Untouched n (t .owners) (u .owners)) (a .n) (b .owners));
-      jumpers = untouched-then _ _ _ _ (a .jumpers) (subst (λ (n : ℕ). Untouched n (t .jumpers) (u .jumpers)) (a .n) (b .jumpers));
-      writers = untouched-then _ _ _ _ (a .writers) (subst (λ (n : ℕ). Untouched n (t .writers) (u .writers)) (a .n) (b .writers));
+      words = untouched-then _ _ _ _ (a .words) (subst (λ (n : ℕ). Untouched n (t .words) (u .words)) e (b .words));
+      owners = untouched-then _ _ _ _ (a .owners) (subst (λ (n : ℕ). Untouched n (t .owners) (u .owners)) e (b .owners));
+      jumpers = untouched-then _ _ _ _ (a .jumpers) (subst (λ (n : ℕ). Untouched n (t .jumpers) (u .jumpers)) e (b .jumpers));
+      writers = untouched-then _ _ _ _ (a .writers) (subst (λ (n : ℕ). Untouched n (t .writers) (u .writers)) e (b .writers));
     }
 
 -- ---- the theorem
@@ -91,45 +84,46 @@ pub step-keeps-rest : (s : State) → Kept s (step s .state)
 unfolding ranInstruction isolated jumpAdded storeAdded
 step-keeps-rest s =
     step-cases s (Kept s) (kept s)
-    (λ v. record {
-      n = refl;
+    (λ p m v. record {
       words = words-rest s _ _ v;
       owners = untouched _ (s .owners);
       jumpers = untouched _ (s .jumpers);
       writers = untouched _ (s .writers);
     })
-    (λ v. record {
-      n = refl;
+    (λ p m v. record {
       words = untouched _ (s .words);
       owners = owned-rest _ _ _ (s .owners);
       jumpers = joined-rest _ _ _ (s .jumpers);
       writers = joined-rest _ _ _ (s .writers);
     })
-    (λ h. record {
-      n = refl;
-      words = untouched _ (s .words);
-      owners = untouched _ (s .owners);
-      jumpers = join-rest s (s .jumpers) _ _ h;
-      writers = untouched _ (s .writers);
-    })
-    (λ h. record {
-      n = refl;
-      words = untouched _ (s .words);
-      owners = untouched _ (s .owners);
-      jumpers = untouched _ (s .jumpers);
-      writers = join-rest s (s .writers) _ _ h;
-    })
+    (λ p m a. (
+      record {
+        words = untouched _ (s .words);
+        owners = untouched _ (s .owners);
+        jumpers = join-rest s (s .jumpers) _ _ (a .named);
+        writers = untouched _ (s .writers);
+      },
+      record {
+        words = untouched _ (s .words);
+        owners = untouched _ (s .owners);
+        jumpers = untouched _ (s .jumpers);
+        writers = join-rest s (s .writers) _ _ (a .named);
+      },
+    ))
 
 pub run-keeps-rest : (k : ℕ) (s : State) → Kept s (run k s .state)
-run-keeps-rest k s = run-keeps (Kept s) (λ t h. kept-then s t (step t .state) h (step-keeps-rest t)) k s (kept s)
+run-keeps-rest k s =
+    run-keeps (λ (t : State). SameSizes s t × Kept s t)
+    (λ t h. (same-sizes-then s t (step t .state) (h .0) (step-same-sizes t), kept-then s t (step t .state) (h .0 .n) (h .1) (step-keeps-rest t))) k s
+    (same-sizes s, kept s) .1
 
 -- so 14's test of the sizes answers the same after as before
-kept-sized : (s t : State) → Kept s t → sized t ≡ sized s
+kept-sized : (s t : State) → t .cpu .n ≡ s .cpu .n → Kept s t → sized t ≡ sized s
 unfolding sized sameLengths
-kept-sized s t k = simp (k .n, k .words .same-length, k .owners .same-length, k .jumpers .same-length, k .writers .same-length)
+kept-sized s t e k = simp (e, k .words .same-length, k .owners .same-length, k .jumpers .same-length, k .writers .same-length)
 
 pub step-sized : (s : State) → sized (step s .state) ≡ sized s
-step-sized s = kept-sized s (step s .state) (step-keeps-rest s)
+step-sized s = kept-sized s (step s .state) (step-same-sizes s .n) (step-keeps-rest s)
 
 pub run-sized : (k : ℕ) (s : State) → sized (run k s .state) ≡ sized s
-run-sized k s = kept-sized s (run k s .state) (run-keeps-rest k s)
+run-sized k s = kept-sized s (run k s .state) (run-same-sizes k s .n) (run-keeps-rest k s)

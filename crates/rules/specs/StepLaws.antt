@@ -107,33 +107,41 @@ caller-plain s h e =
     go true e h = let z : false ≡ true = simp e at h in clash z refl
     go false e h = e
 
-pub add-inside : (s : State) → verdict s ≡ answer.done → inMemory s (s .cpu .pc) ≡ false → addVerdict s (s .cpu .prev) ≡ answer.done → inMemory s (reg (s .cpu .regs) 1) ≡ true
+-- the registers that the checks of an add ask about name memory words
+pub record Adds (s : State) : Type 0 where
+  pub named : inMemory s (reg (s .cpu .regs) 1) ≡ true
+  pub back : inMemory s (reg (s .cpu .regs) 15) ≡ true
+
+pub add-inside : (s : State) → verdict s ≡ answer.done → inMemory s (s .cpu .pc) ≡ false → addVerdict s (s .cpu .prev) ≡ answer.done → Adds s
 unfolding addVerdict
-add-inside s h e v = owned-inside s (caller-plain s h e) (reg (s .cpu .regs) 1) (took (owns s (s .cpu .prev) (reg (s .cpu .regs) 1)) _ 10 v .0)
+add-inside s h e v =
+    let p = caller-plain s h e in
+    let a = took (owns s (s .cpu .prev) (reg (s .cpu .regs) 1)) _ 10 v in
+    let b = took (owns s (s .cpu .prev) (reg (s .cpu .regs) 15)) 0 11 (a .1) in
+    record { named = owned-inside s p (reg (s .cpu .regs) 1) (a .0); back = owned-inside s p (reg (s .cpu .regs) 15) (b .0) }
 
 -- ---- what holds of the state that a step leaves: it holds of the state before, and of what each kind of step makes of it
 
 pub step-cases : (s : State) (P : State → Type 0) → P s
-    → (wordVerdict s (ownerAt s (s .cpu .pc)) (instructionAt s) ≡ answer.done → P (ranInstruction s (ownerAt s (s .cpu .pc)) (instructionAt s)))
-    → (isolateVerdict s (s .cpu .prev) ≡ answer.done → P (isolated s))
-    → (inMemory s (reg (s .cpu .regs) 1) ≡ true → P (jumpAdded s))
-    → (inMemory s (reg (s .cpu .regs) 1) ≡ true → P (storeAdded s))
+    → (Passes s → inMemory s (s .cpu .pc) ≡ true → wordVerdict s (ownerAt s (s .cpu .pc)) (instructionAt s) ≡ answer.done
+    → P (ranInstruction s (ownerAt s (s .cpu .pc)) (instructionAt s)))
+    → (Passes s → inMemory s (s .cpu .pc) ≡ false → isolateVerdict s (s .cpu .prev) ≡ answer.done → P (isolated s))
+    → (Passes s → inMemory s (s .cpu .pc) ≡ false → Adds s → P (jumpAdded s) × P (storeAdded s))
     → P (step s .state)
 unfolding step commit ranService serviceVerdict
-step-cases s P kept word isolates jump store = go (eqb (verdict s) answer.done) (inMemory s (s .cpu .pc)) (eqb (s .cpu .pc) isolate) refl refl refl
+step-cases s P kept word isolates adds = go (eqb (verdict s) answer.done) (inMemory s (s .cpu .pc)) (eqb (s .cpu .pc) isolate) refl refl refl
   where
     go : (b c d : Bool) → eqb (verdict s) answer.done ≡ b → inMemory s (s .cpu .pc) ≡ c → eqb (s .cpu .pc) isolate ≡ d → P (step s .state)
     go false c d p q f = simp p kept
-    go true true d p q f = simp (p, q) (word (simp q at (passes s (eqb-true _ _ p) .rest)))
-    go true false true p q f = simp (p, q, f) (isolates (simp (q, f) at (passes s (eqb-true _ _ p) .rest)))
-    go true false false p q f = add (eqb (s .cpu .pc) add-jump-target) refl
+    go true true d p q f = let h = passes s (eqb-true _ _ p) in simp (p, q) (word h q (simp q at (h .rest)))
+    go true false true p q f = let h = passes s (eqb-true _ _ p) in simp (p, q, f) (isolates h q (simp (q, f) at (h .rest)))
+    go true false false p q f =
+        let h = passes s (eqb-true _ _ p) in
+        add (eqb (s .cpu .pc) add-jump-target) refl (adds h q (add-inside s (eqb-true _ _ p) q (simp (q, f) at (h .rest))))
       where
-        inside : inMemory s (reg (s .cpu .regs) 1) ≡ true
-        inside = add-inside s (eqb-true _ _ p) q (simp (q, f) at (passes s (eqb-true _ _ p) .rest))
-
-        add : (e : Bool) → eqb (s .cpu .pc) add-jump-target ≡ e → P (step s .state)
-        add true g = simp (p, q, f, g) (jump inside)
-        add false g = simp (p, q, f, g) (store inside)
+        add : (e : Bool) → eqb (s .cpu .pc) add-jump-target ≡ e → P (jumpAdded s) × P (storeAdded s) → P (step s .state)
+        add true g x = simp (p, q, f, g) (x .0)
+        add false g x = simp (p, q, f, g) (x .1)
 
 -- what every step keeps, a run keeps
 pub run-keeps : (P : State → Type 0) → ((s : State) → P s → P (step s .state)) → (k : ℕ) (s : State) → P s → P (run k s .state)
