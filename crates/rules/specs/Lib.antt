@@ -10,6 +10,7 @@ pub mod StepLaws
 pub mod Stays
 pub mod Additive
 pub mod Cascades
+pub mod Conditions
 pub mod Numbers
 pub mod Images
 pub mod ImageNumbers

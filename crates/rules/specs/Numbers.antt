@@ -1,67 +1,74 @@
--- Each number of a step is given exactly on its condition, the sheet's order being that of the checks; for every state whatever.
-use mathlib.Core.Path.{_≡_, refl, _∙_}
-use mathlib.Core.Bool.{Bool, true, false, _&&_, _||_, not, or-false}
-use mathlib.Core.List.{List, [], _∷_}
+-- Each number of a step is given exactly on its condition, the table of Conditions; for every state whatever.
+use mathlib.Core.Path.{_≡_, refl, ap, _∙_}
+use mathlib.Core.Bool.{Bool, true, false, _&&_, _||_, not, or-false, or-assoc, Bool·not-not}
 use mathlib.Core.Logic.{_↔_}
 use Prim.Native.Nat.{ℕ, _≤_, _<_}
 use native.Mathlib.Omega.{arith}
 use borrow.Author.Tests.{ltb-true, eqb-true, eqb-false, eq-eqb, ne-eqb}
-use lib.Dec.{eqb}
+use lib.Dec.{ltb, eqb}
 use Rattle.common.specs.Answers as answer
 use Rattle.common.specs.Opcodes as is
 use Rattle.common.specs.Instructions.{reg}
-use Rattle.common.specs.Services.{isolate, add-jump-target, add-store-target, isService}
-use Rattle.common.specs.AddressSets.{isEmpty}
-use Rattle.rules.specs.Compartments.{numbers}
-use Rattle.rules.specs.State.{State, inMemory, hasOwner, ownerAt, owns, mayStore}
-use Rattle.rules.specs.Checks.{formed, badOwner, arrives, instructionAt, target, storeVerdict, instructionVerdict, wordVerdict, setA, goodSets, setsWithin, returns, isolateVerdict, addVerdict, serviceVerdict, verdict}
+use Rattle.common.specs.Services.{isolate, add-jump-target, add-store-target, serviceCount, isService}
+use Rattle.rules.specs.State.{State, firstNumber, inMemory, hasOwner, ownerAt, writersAt, owns, mayJump, mayStore}
+use Rattle.rules.specs.Checks.{sameLengths, sized, numbered, seated, formed, badOwner, arrives, instructionAt, storeVerdict, instructionVerdict, wordVerdict, goodSets, setsWithin, returns, isolateVerdict, addVerdict, serviceVerdict, verdict}
 use Rattle.rules.specs.Step.{step}
 use Rattle.rules.specs.FormLaws.{n-most, service-range, at-service}
 use Rattle.rules.specs.StepLaws.{answer-is}
-use Rattle.rules.specs.Cascades.{Check, on, firstOf, Exactly, NoneHolds, nonzero, on-its-condition, done-otherwise, cond-not}
+use Rattle.rules.specs.Cascades.{firstOf, Exactly, NoneHolds, nonzero, on-its-condition, done-otherwise, cond-not, not-and, not-or, not-leb}
+use Rattle.rules.specs.Conditions as of
+use Rattle.rules.specs.Conditions.{checks, isWord, owner, instructionHere, named, atIsolate, atAdd}
 
--- ---- the table
+-- ---- each condition is the test that the definition makes
 
--- "At a memory word: .. the instruction" with opcode op
-abbrev pub isOp : State → ℕ → Bool
-isOp s op = inMemory s (s .cpu .pc) && eqb (instructionAt s .op) op
+form-row : (s : State) → of.badForm s ≡ not (formed s)
+unfolding of.badForm of.lengthsDiffer formed sized sameLengths numbered seated firstNumber serviceCount
+form-row s = simp (not-and, not-or, Bool·not-not, or-assoc, not-leb)
 
--- the address that the instruction at pc names
-abbrev pub named : State → ℕ
-named s = target s (instructionAt s)
+place-row : (s : State) → of.noPlace s ≡ not (hasOwner s (s .cpu .pc))
+unfolding of.noPlace hasOwner inMemory
+place-row s = simp not-or
 
--- "the owner of the instruction owns the target or is in the target's W"
-abbrev pub writable : State → Bool
-writable s = owns s (ownerAt s (s .cpu .pc)) (named s) || mayStore s (ownerAt s (s .cpu .pc)) (named s)
+owner-row : (s : State) → of.wrongOwner s ≡ badOwner s
+unfolding of.wrongOwner badOwner ownerAt inMemory
+owner-row s = go (ltb (s .cpu .pc) (s .cpu .n)) refl
+  where
+    go : (b : Bool) → ltb (s .cpu .pc) (s .cpu .n) ≡ b → of.wrongOwner s ≡ badOwner s
+    go true e = simp e
+    go false e = simp e
 
-abbrev pub atIsolate : State → Bool
-atIsolate s = eqb (s .cpu .pc) isolate
+arrival-row : (s : State) → of.noArrival s ≡ not (arrives s)
+unfolding of.noArrival arrives mayJump
+arrival-row s = simp not-or
 
-abbrev pub atAdd : State → Bool
-atAdd s = eqb (s .cpu .pc) add-jump-target || eqb (s .cpu .pc) add-store-target
+sets-row : (s : State) → of.badSets s ≡ (atIsolate s && not (goodSets s))
+unfolding of.badSets goodSets
+sets-row s = simp (not-and, or-assoc)
 
--- "At a service, the caller is the pc number": it owns what register r holds
-abbrev pub callerOwns : State → ℕ → Bool
-callerOwns s r = owns s (s .cpu .prev) (reg (s .cpu .regs) r)
+within-row : (s : State) → of.notWithin s ≡ (atIsolate s && not (setsWithin s (s .cpu .prev)))
+unfolding of.notWithin setsWithin mayJump mayStore
+within-row s = refl
 
-unfoldable pub checks : State → List Check
-checks s =
-    on answer.bad-form (not (formed s))
-    ∷ on answer.no-place (not (hasOwner s (s .cpu .pc)))
-    ∷ on answer.bad-owner (badOwner s)
-    ∷ on answer.no-arrival (not (arrives s))
-    ∷ on answer.no-instruction (inMemory s (s .cpu .pc) && not (eqb (instructionAt s .answer) answer.done))
-    ∷ on answer.load-outside (isOp s is.load && not (inMemory s (named s)))
-    ∷ on answer.store-outside (isOp s is.store && not (inMemory s (named s)))
-    ∷ on answer.store-forbidden (isOp s is.store && not (writable s))
-    ∷ on answer.halt (isOp s is.halt)
-    ∷ on answer.bad-set (atIsolate s && not (goodSets s))
-    ∷ on answer.empty-set (atIsolate s && isEmpty (setA s))
-    ∷ on answer.not-within (atIsolate s && not (setsWithin s (s .cpu .prev)))
-    ∷ on answer.not-owned (atAdd s && not (callerOwns s 1))
-    ∷ on answer.no-return ((atIsolate s && not (returns s (s .cpu .prev))) || (atAdd s && not (callerOwns s 15)))
-    ∷ on answer.no-number (atIsolate s && eqb (s .cpu .next) numbers)
-    ∷ []
+-- a word that is in memory is owned by its owner
+owns-word : (s : State) (c x : ℕ) → inMemory s x ≡ true → owns s c x ≡ eqb (owner s x) c
+unfolding owns hasOwner ownerAt
+owns-word s c x e = simp e
+
+owner-word : (s : State) (x : ℕ) → inMemory s x ≡ true → ownerAt s x ≡ owner s x
+unfolding ownerAt
+owner-word s x e = simp e
+
+return-test : (s : State) → of.returnsNot s ≡ not (returns s (s .cpu .prev))
+unfolding returns inMemory
+return-test s = go (ltb (reg (s .cpu .regs) 15) (s .cpu .n)) refl
+  where
+    go : (b : Bool) → ltb (reg (s .cpu .regs) 15) (s .cpu .n) ≡ b → of.returnsNot s ≡ not (returns s (s .cpu .prev))
+    go true e = simp (e, owns-word s (s .cpu .prev) (reg (s .cpu .regs) 15) e)
+    go false e = simp e
+
+return-row : (s : State) → of.noReturn s ≡ ((atIsolate s && not (returns s (s .cpu .prev))) || (atAdd s && not (owns s (s .cpu .prev) (reg (s .cpu .regs) 15))))
+unfolding of.noReturn
+return-row s = ap (λ (b : Bool). (atIsolate s && b) || (atAdd s && not (owns s (s .cpu .prev) (reg (s .cpu .regs) 15)))) (return-test s)
 
 -- ---- where pc is, as the rows ask
 
@@ -102,27 +109,43 @@ store-alone : (op : ℕ) → eqb op is.store ≡ true → eqb op is.halt ≡ fal
 store-alone op h = let e : op ≡ is.store = eqb-true _ _ h in simp e
 
 verdict-first : (s : State) → verdict s ≡ firstOf (checks s)
-unfolding verdict firstOf checks wordVerdict instructionVerdict storeVerdict serviceVerdict isolateVerdict addVerdict
-verdict-first s = go (formed s) (hasOwner s (s .cpu .pc)) (inMemory s (s .cpu .pc)) refl refl refl
+unfolding verdict firstOf checks inMemory wordVerdict instructionVerdict storeVerdict instructionAt mayStore writersAt serviceVerdict isolateVerdict addVerdict of.noInstruction of.loadOutside of.storeOutside of.storeForbidden of.halts of.emptySet of.notOwned of.noNumber
+verdict-first s = go (formed s) (hasOwner s (s .cpu .pc)) (isWord s) refl refl refl
   where
-    word : formed s ≡ true → hasOwner s (s .cpu .pc) ≡ true → inMemory s (s .cpu .pc) ≡ true → (f g h : Bool) → eqb (instructionAt s .answer) answer.done ≡ f
-        → eqb (instructionAt s .op) is.load ≡ g → eqb (instructionAt s .op) is.store ≡ h → verdict s ≡ firstOf (checks s)
-    word p q u false g h v w x = simp (cond-not, p, q, u, v)
-    word p q u true true h v w x = let a = load-alone (instructionAt s .op) w in let z = word-place s p u in simp (cond-not, p, q, u, v, w, a .0, a .1, z .0, z .1)
-    word p q u true false true v w x = let a = store-alone (instructionAt s .op) x in let z = word-place s p u in simp (cond-not, p, q, u, v, w, x, a, z .0, z .1)
-    word p q u true false false v w x = let z = word-place s p u in simp (cond-not, p, q, u, v, w, x, z .0, z .1)
+    store : formed s ≡ true → hasOwner s (s .cpu .pc) ≡ true → isWord s ≡ true → eqb (instructionHere s .answer) answer.done ≡ true → eqb (instructionHere s .op) is.load ≡ false
+        → eqb (instructionHere s .op) is.store ≡ true → (b : Bool) → ltb (named s) (s .cpu .n) ≡ b → verdict s ≡ firstOf (checks s)
+    store p q u v w x false m = simp (cond-not, form-row, place-row, owner-row, arrival-row, p, q, u, v, w, x, m)
+    store p q u v w x true m =
+        let a = store-alone (instructionHere s .op) x in
+        let z = word-place s p u in
+        let o : ownerAt s (s .cpu .pc) ≡ owner s (s .cpu .pc) = owner-word s (s .cpu .pc) u in
+        simp (cond-not, form-row, place-row, owner-row, arrival-row, sets-row, within-row, return-row, o, owns-word s (owner s (s .cpu .pc)) (named s) m, p, q, u, v, w, x, m, a, z .0, z .1)
 
-    service : formed s ≡ true → hasOwner s (s .cpu .pc) ≡ true → inMemory s (s .cpu .pc) ≡ false → isService (s .cpu .pc) ≡ true → (i : Bool) → atIsolate s ≡ i
+    word : formed s ≡ true → hasOwner s (s .cpu .pc) ≡ true → isWord s ≡ true → (f g h : Bool) → eqb (instructionHere s .answer) answer.done ≡ f
+        → eqb (instructionHere s .op) is.load ≡ g → eqb (instructionHere s .op) is.store ≡ h → verdict s ≡ firstOf (checks s)
+    word p q u false g h v w x = simp (cond-not, form-row, place-row, owner-row, arrival-row, p, q, u, v)
+    word p q u true true h v w x =
+        let a = load-alone (instructionHere s .op) w in
+        let z = word-place s p u in
+        simp (cond-not, form-row, place-row, owner-row, arrival-row, sets-row, within-row, return-row, p, q, u, v, w, a .0, a .1, z .0, z .1)
+    word p q u true false true v w x = store p q u v w x (ltb (named s) (s .cpu .n)) refl
+    word p q u true false false v w x =
+        let z = word-place s p u in
+        simp (cond-not, form-row, place-row, owner-row, arrival-row, sets-row, within-row, return-row, p, q, u, v, w, x, z .0, z .1)
+
+    service : formed s ≡ true → hasOwner s (s .cpu .pc) ≡ true → isWord s ≡ false → isService (s .cpu .pc) ≡ true → (b : Bool) → atIsolate s ≡ b
         → verdict s ≡ firstOf (checks s)
-    service p q u k true e = simp (cond-not, or-false, p, q, u, e, isolate-only (s .cpu .pc) e)
-    service p q u k false e = simp (cond-not, p, q, u, e, other-service (s .cpu .pc) k e)
+    service p q u k true e =
+        simp (cond-not, or-false, form-row, place-row, owner-row, arrival-row, sets-row, within-row, return-row, p, q, u, e, isolate-only (s .cpu .pc) e)
+    service p q u k false e =
+        simp (cond-not, form-row, place-row, owner-row, arrival-row, sets-row, within-row, return-row, p, q, u, e, other-service (s .cpu .pc) k e)
 
-    go : (a b e : Bool) → formed s ≡ a → hasOwner s (s .cpu .pc) ≡ b → inMemory s (s .cpu .pc) ≡ e → verdict s ≡ firstOf (checks s)
-    go false b e p q u = simp p
-    go true false e p q u = simp (p, q)
+    go : (a b e : Bool) → formed s ≡ a → hasOwner s (s .cpu .pc) ≡ b → isWord s ≡ e → verdict s ≡ firstOf (checks s)
+    go false b e p q u = simp (form-row, p)
+    go true false e p q u = simp (form-row, place-row, p, q)
     go true true false p q u = service p q u (at-service s q u) (atIsolate s) refl
     go true true true p q u =
-        word p q u (eqb (instructionAt s .answer) answer.done) (eqb (instructionAt s .op) is.load) (eqb (instructionAt s .op) is.store) refl refl refl
+        word p q u (eqb (instructionHere s .answer) answer.done) (eqb (instructionHere s .op) is.load) (eqb (instructionHere s .op) is.store) refl refl refl
 
 -- ---- the theorem
 
