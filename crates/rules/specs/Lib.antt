@@ -19,6 +19,7 @@ pub mod TagLaws
 pub mod Grows
 pub mod Rest
 pub mod Formed
+pub mod Leaving
 pub mod BelowLaws
 pub mod Alike
 pub mod Lines
