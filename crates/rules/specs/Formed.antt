@@ -3,19 +3,18 @@ use mathlib.Core.Path.{_≡_, refl, sym, ap, _∙_}
 use mathlib.Core.Bool.{Bool, true, false, cond, and-false}
 use Prim.Native.Nat.{ℕ, suc, _≤_, _<_}
 use native.Mathlib.Omega.{arith}
-use borrow.Author.Tests.{ltb-true, leb-true, lt-leb, eqb-false}
+use borrow.Author.Tests.{ltb-true, leb-true, lt-leb, eqb-false, eq-eqb}
 use lib.Dec.{eqb, leb}
 use Rattle.common.specs.Answers as answer
 use Rattle.common.specs.Services.{serviceCount, isService, serviceAt, isServiceNumber}
 use Rattle.common.specs.Instructions.{reg}
-use Rattle.common.specs.AddressSets.{isEmpty}
-use Rattle.common.specs.Tests.{both}
+use Rattle.common.specs.Tests.{both, clash}
 use Rattle.rules.specs.State.{State, inMemory}
-use Rattle.rules.specs.Checks.{sized, numbered, seated, formed, setA, goodSets, setsWithin, wordVerdict, serviceVerdict, returns, isolateVerdict, verdict, instructionVerdict, storeVerdict, addVerdict}
+use Rattle.rules.specs.Checks.{sized, numbered, seated, formed, wordVerdict, serviceVerdict, returns, isolateVerdict, verdict, instructionVerdict, storeVerdict, addVerdict}
 use Rattle.rules.specs.Step.{Stepped, ranInstruction, isolated, jumpAdded, storeAdded, step}
 use Rattle.rules.specs.Run.{run}
 use Rattle.rules.specs.FormLaws.{is-numbered, numbered-is, is-formed, n-most, service-number, at-service, good-owner}
-use Rattle.rules.specs.StepLaws.{answer-is, took, passed, step-cases, run-keeps}
+use Rattle.rules.specs.StepLaws.{cond-same, answer-is, step-cases, run-keeps}
 use Rattle.rules.specs.Stays.{ended-at}
 use Rattle.rules.specs.Rest.{step-sized}
 
@@ -40,17 +39,35 @@ word-plain s h x m =
     let k : s .cpu .n ≤ 2048 = n-most s h in
     simp (lt-leb 4096 x (omega arith))
 
--- after an isolate: 13 was passed, so one number more is still at most 64
-isolated-numbers : (s : State) → numbered s ≡ true → isolateVerdict s (s .cpu .prev) ≡ answer.done → (suc (s .cpu .next) ≤ 64) × (inMemory s (reg (s .cpu .regs) 15) ≡ true)
-unfolding isolateVerdict returns
-isolated-numbers s n v =
-    let a = took (goodSets s) _ 7 v in
-    let b = passed (isEmpty (setA s)) _ 8 (a .1) in
-    let c = took (setsWithin s (s .cpu .prev)) _ 9 (b .1) in
-    let d = took (returns s (s .cpu .prev)) _ 11 (c .1) in
-    let e = eqb-false (s .cpu .next) 64 (passed (eqb (s .cpu .next) 64) 0 12 (d .1) .0) in
+-- ---- what an isolate that ran passed on its way, wherever on it: no cascade that leaves a test out answers 0
+
+eqb-cond : (b : Bool) (x y k : ℕ) → eqb (cond b x y) k ≡ cond b (eqb x k) (eqb y k)
+eqb-cond true x y k = refl
+eqb-cond false x y k = refl
+
+isolate-passed : (s : State) (c : ℕ) → isolateVerdict s c ≡ answer.done → (returns s c ≡ true) × (eqb (s .cpu .next) 64 ≡ false)
+unfolding isolateVerdict
+isolate-passed s c v = go (returns s c) (eqb (s .cpu .next) 64) refl refl (eq-eqb _ _ v)
+  where
+    go : (a b : Bool) → returns s c ≡ a → eqb (s .cpu .next) 64 ≡ b → eqb (isolateVerdict s c) answer.done ≡ true → (returns s c ≡ true) × (eqb (s .cpu .next) 64 ≡ false)
+    go true false e f h = (e, f)
+    go false b e f h = let z : eqb (isolateVerdict s c) answer.done ≡ false = simp (e, eqb-cond, cond-same) in clash h z
+    go true true e f h = let z : eqb (isolateVerdict s c) answer.done ≡ false = simp (e, f, eqb-cond, cond-same) in clash h z
+
+-- 13 was passed, so one number more is still at most 64
+one-more-number : (s : State) → numbered s ≡ true → isolateVerdict s (s .cpu .prev) ≡ answer.done → suc (s .cpu .next) ≤ 64
+one-more-number s n v =
+    let e = eqb-false (s .cpu .next) 64 (isolate-passed s (s .cpu .prev) v .1) in
     let m : s .cpu .next ≤ 64 = is-numbered s n .high in
-    (omega arith, both _ _ (both _ _ (d .0) .0) .0)
+    omega arith
+
+returns-inside : (s : State) (c : ℕ) → returns s c ≡ true → inMemory s (reg (s .cpu .regs) 15) ≡ true
+unfolding returns
+returns-inside s c h = go (inMemory s (reg (s .cpu .regs) 15)) refl
+  where
+    go : (b : Bool) → inMemory s (reg (s .cpu .regs) 15) ≡ b → inMemory s (reg (s .cpu .regs) 15) ≡ true
+    go true e = e
+    go false e = let z : false ≡ true = simp e at h in clash z refl
 
 step-held : (s : State) → formed s ≡ true → Held (step s .state)
 unfolding ranInstruction isolated jumpAdded storeAdded seated
@@ -62,9 +79,10 @@ step-held s f =
       numbers = numbered-is (ranInstruction s _ _) (record { low = num .low; high = num .high; prev = o .below });
       seat = simp (o .plain);
     })
-    (λ p m v. let r = isolated-numbers s (form .numbered) v in record {
-      numbers = numbered-is (isolated s) (record { low = omega arith; high = r .0; prev = omega (arith, service-below s (at-service s (p .place) m) (form .numbered)) });
-      seat = simp (word-plain s f _ (r .1), and-false);
+    (λ p m v. record {
+      numbers = numbered-is (isolated s)
+          (record { low = omega arith; high = one-more-number s (form .numbered) v; prev = omega (arith, service-below s (at-service s (p .place) m) (form .numbered)) });
+      seat = simp (word-plain s f _ (returns-inside s _ (isolate-passed s _ v .0)), and-false);
     })
     (λ p m a. let r = service-below s (at-service s (p .place) m) (form .numbered) in (
       record { numbers = numbered-is (jumpAdded s) (record { low = num .low; high = num .high; prev = r }); seat = simp (word-plain s f _ (a .back), and-false) },
@@ -84,14 +102,6 @@ run-formed k s f = run-keeps (λ (t : State). formed t ≡ true) step-formed k s
 bad-form-only : (s : State) → formed s ≡ true → eqb (verdict s) answer.bad-form ≡ false
 unfolding verdict wordVerdict instructionVerdict storeVerdict serviceVerdict isolateVerdict addVerdict
 bad-form-only s h = simp (h, eqb-cond, cond-same)
-  where
-    eqb-cond : (b : Bool) (x y : ℕ) → eqb (cond b x y) answer.bad-form ≡ cond b (eqb x answer.bad-form) (eqb y answer.bad-form)
-    eqb-cond true x y = refl
-    eqb-cond false x y = refl
-
-    cond-same : (b : Bool) → cond b false false ≡ false
-    cond-same true = refl
-    cond-same false = refl
 
 pub run-no-bad-form : (k : ℕ) (s : State) → formed s ≡ true → run k s .answer ≡ answer.bad-form → ⊥
 run-no-bad-form k s f h =

@@ -18,7 +18,7 @@ use Rattle.rules.specs.Checks.{verdict}
 use Rattle.rules.specs.Step.{ranInstruction, joinedServices, isolated, jumpAdded, storeAdded, ranService, commit, step}
 use Rattle.rules.specs.Run.{run}
 use Rattle.rules.specs.FormLaws.{outside}
-use Rattle.rules.specs.StepLaws.{passes, step-cases, run-keeps}
+use Rattle.rules.specs.StepLaws.{cond-same, passes, step-cases, run-keeps}
 use Rattle.rules.specs.TagLaws.{length-map}
 
 -- ---- next
@@ -83,10 +83,6 @@ same-sizes-then s t u a b = record { n = b .n ∙ a .n; registers = b .registers
 length-cond : (b : Bool) (l m : List ℕ) → length (cond b l m) ≡ cond b (length l) (length m)
 length-cond true l m = refl
 length-cond false l m = refl
-
-cond-same : (b : Bool) (x : ℕ) → cond b x x ≡ x
-cond-same true x = refl
-cond-same false x = refl
 
 regs-length : (i : Decoded) (pc : ℕ) (regs words : List ℕ) → length (regsAfter i pc regs words) ≡ length regs
 unfolding regsAfter

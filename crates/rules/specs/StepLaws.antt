@@ -51,6 +51,10 @@ pub passed : (b : Bool) (x k : ℕ) → cond b (suc k) x ≡ 0 → (b ≡ false)
 passed true x k h = absurd (omega arith)
 passed false x k h = (refl, h)
 
+pub cond-same {ℓ} : {A : Type ℓ} (b : Bool) (x : A) → cond b x x ≡ x
+cond-same true x = refl
+cond-same false x = refl
+
 -- a step that runs passed 14, 2, 15 and 4, and then its word's or its service's own checks
 pub record Passes (s : State) : Type 0 where
   pub formed : formed s ≡ true
