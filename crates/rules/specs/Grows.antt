@@ -3,7 +3,7 @@ use mathlib.Core.Path.{_≡_, refl, sym, _∙_}
 use mathlib.Core.Bool.{Bool, true, false, cond, _&&_}
 use mathlib.Core.List.{List}
 use mathlib.Core.Logic.{_↔_}
-use Prim.Native.Nat.{ℕ, suc, _≤_}
+use Prim.Native.Nat.{ℕ, suc, _≤_, _<_}
 use native.Mathlib.Omega.{arith}
 use borrow.Author.Tests.{eqb-true, eq-eqb}
 use lib.Dec.{eqb}
@@ -11,7 +11,7 @@ use lib.ListN.{length, length-set}
 use Rattle.common.specs.Answers as answer
 use Rattle.common.specs.Words.{Decoded}
 use Rattle.common.specs.Instructions.{regsAfter}
-use Rattle.common.specs.Services.{isolate}
+use Rattle.common.specs.Services.{isolate, add-jump-target}
 use Rattle.common.specs.Tests.{both}
 use Rattle.rules.specs.State.{State, inMemory}
 use Rattle.rules.specs.Checks.{verdict}
@@ -37,9 +37,9 @@ next-after s = go (eqb (verdict s) answer.done) (eqb (s .cpu .pc) isolate) refl 
         let e : s .cpu .pc ≡ isolate = eqb-true _ _ q in
         let o = outside s (passes s (eqb-true _ _ p) .formed) (s .cpu .pc) (omega arith) in
         simp (p, q, o)
-    go true false p q = other (inMemory s (s .cpu .pc)) (eqb (s .cpu .pc) 4097) refl refl
+    go true false p q = other (inMemory s (s .cpu .pc)) (eqb (s .cpu .pc) add-jump-target) refl refl
       where
-        other : (c e : Bool) → inMemory s (s .cpu .pc) ≡ c → eqb (s .cpu .pc) 4097 ≡ e → step s .state .cpu .next ≡ cond (isolates s) (suc (s .cpu .next)) (s .cpu .next)
+        other : (c e : Bool) → inMemory s (s .cpu .pc) ≡ c → eqb (s .cpu .pc) add-jump-target ≡ e → step s .state .cpu .next ≡ cond (isolates s) (suc (s .cpu .next)) (s .cpu .next)
         other true e m f = simp (p, q, m)
         other false true m f = simp (p, q, m, f)
         other false false m f = simp (p, q, m, f)
@@ -66,6 +66,13 @@ next-never-falls s = rw next-after (grown (isolates s) (s .cpu .next))
 pub run-next-never-falls : (k : ℕ) (s : State) → s .cpu .next ≤ run k s .state .cpu .next
 run-next-never-falls k s =
     run-keeps (λ (t : State). s .cpu .next ≤ t .cpu .next) (λ t h. let l : t .cpu .next ≤ step t .state .cpu .next = next-never-falls t in omega arith) k s (omega arith)
+
+-- the number that an isolate gave is below every number that is given after it
+pub never-again : (s : State) → step s .answer ≡ answer.done → s .cpu .pc ≡ isolate → (k : ℕ) → s .cpu .next < run k (step s .state) .state .cpu .next
+never-again s h e k =
+    let g : step s .state .cpu .next ≡ suc (s .cpu .next) = next-grows-iff s .1 (h, e) in
+    let l : step s .state .cpu .next ≤ run k (step s .state) .state .cpu .next = run-next-never-falls k (step s .state) in
+    omega arith
 
 -- ---- what never changes
 
