@@ -4,7 +4,7 @@ use mathlib.Core.Bool.{Bool, true, false, cond, _&&_, _||_}
 use mathlib.Core.List.{List}
 use Prim.Native.Nat.{ℕ, zero, suc, _≤_}
 use native.Mathlib.Omega.{arith}
-use borrow.Author.Tests.{ltb-true, eqb-true}
+use borrow.Author.Tests.{ltb-true, le-leb, eqb-true, eq-eqb}
 use lib.Dec.{ltb, eqb}
 use lib.ListN.{length, take}
 use Rattle.common.specs.Answers as answer
@@ -14,14 +14,14 @@ use Rattle.common.specs.Services.{isolate, add-jump-target, isService}
 use Rattle.common.specs.AddressSets.{setAt, goodSet}
 use Rattle.common.specs.Tests.{both}
 use Rattle.rules.specs.State.{Processor, State, inMemory, hasOwner, ownerAt, jumpersAt, writersAt, owns, mayJump, mayStore}
-use Rattle.rules.specs.Checks.{sized, numbered, seated, formed, badOwner, arrives, instructionAt, storeVerdict, instructionVerdict, wordVerdict, setA, setJ, setS, goodSets, setsWithin, returns, isolateVerdict, addVerdict, serviceVerdict, verdict}
+use Rattle.rules.specs.Checks.{sameLengths, sized, numbered, seated, formed, badOwner, arrives, instructionAt, storeVerdict, instructionVerdict, wordVerdict, setA, setJ, setS, goodSets, setsWithin, returns, isolateVerdict, addVerdict, serviceVerdict, verdict}
 use Rattle.rules.specs.Step.{ranInstruction, mapFrom, owned, joined, isolated, jumpAdded, storeAdded, ranService, commit, step}
 use Rattle.rules.specs.Run.{Ran, run}
-use Rattle.rules.specs.FormLaws.{is-sized}
+use Rattle.rules.specs.FormLaws.{Lent}
 use Rattle.rules.specs.StepLaws.{took, passes, load-inside, add-inside}
 use Rattle.rules.specs.TagLaws.{take-map}
 use Rattle.rules.specs.BelowLaws.{good-take, set-take, words-take, regs-take, same-at, same-joined}
-use Rattle.rules.specs.Rest.{step-sized}
+use Rattle.rules.specs.Rest.{step-lent}
 
 -- the same processor, and memories that agree below N; how long they are does not matter
 pub record Alike (s t : State) : Type 0 where
@@ -31,7 +31,7 @@ pub record Alike (s t : State) : Type 0 where
   pub jumpers : take (s .cpu .n) (s .jumpers) ≡ take (s .cpu .n) (t .jumpers)
   pub writers : take (s .cpu .n) (s .writers) ≡ take (s .cpu .n) (t .writers)
 
--- two states over one processor record, both of a size that 14 lets pass
+-- two states over one processor record
 module _ (u : Processor) (w o j r w′ o′ j′ r′ : List ℕ) where
   abbrev s : State
   s = record { cpu = u; words = w; owners = o; jumpers = j; writers = r }
@@ -39,7 +39,7 @@ module _ (u : Processor) (w o j r w′ o′ j′ r′ : List ℕ) where
   abbrev t : State
   t = record { cpu = u; words = w′; owners = o′; jumpers = j′; writers = r′ }
 
-  module _ (zs : sized s ≡ true) (zt : sized t ≡ true) (al : Alike s t) where
+  module _ (ls : Lent s) (lt : Lent t) (al : Alike s t) where
     -- ---- what is read
 
     owner-eq : (x : ℕ) → ownerAt s x ≡ ownerAt t x
@@ -78,9 +78,20 @@ module _ (u : Processor) (w o j r w′ o′ j′ r′ : List ℕ) where
 
     -- ---- the checks
 
+    -- 14 looks at the lengths only to compare them with one another and with N
     formed-eq : formed s ≡ formed t
-    unfolding formed numbered seated
-    formed-eq = simp (zs, zt)
+    unfolding formed sized sameLengths numbered seated
+    formed-eq =
+        simp (
+          eq-eqb (length o) (length w) (ls .owners),
+          eq-eqb (length j) (length w) (ls .jumpers),
+          eq-eqb (length r) (length w) (ls .writers),
+          le-leb (u .n) (length w) (ls .enough),
+          eq-eqb (length o′) (length w′) (lt .owners),
+          eq-eqb (length j′) (length w′) (lt .jumpers),
+          eq-eqb (length r′) (length w′) (lt .writers),
+          le-leb (u .n) (length w′) (lt .enough),
+        )
 
     bad-eq : badOwner s ≡ badOwner t
     unfolding badOwner inMemory
@@ -152,7 +163,7 @@ module _ (u : Processor) (w o j r w′ o′ j′ r′ : List ℕ) where
         let e = regs-eq c i v in
         record {
           cpu = simp e;
-          words = sym (words-take i (u .n) (u .regs) w (is-sized s zs .lent)) ∙ ap (wordsAfter i (u .regs)) (al .words) ∙ words-take i (u .n) (u .regs) w′ (is-sized t zt .lent);
+          words = sym (words-take i (u .n) (u .regs) w (ls .enough)) ∙ ap (wordsAfter i (u .regs)) (al .words) ∙ words-take i (u .n) (u .regs) w′ (lt .enough);
           owners = al .owners;
           jumpers = al .jumpers;
           writers = al .writers;
@@ -174,8 +185,8 @@ module _ (u : Processor) (w o j r w′ o′ j′ r′ : List ℕ) where
         }
 
     -- each memory is as long as the words, so N or longer
-    long : (q : State) → sized q ≡ true → (l : List ℕ) → length l ≡ length (q .words) → q .cpu .n ≤ length l
-    long q z l e = let m : q .cpu .n ≤ length (q .words) = is-sized q z .lent in omega arith
+    long : (q : State) → Lent q → (l : List ℕ) → length l ≡ length (q .words) → q .cpu .n ≤ length l
+    long q h l e = let m : q .cpu .n ≤ length (q .words) = h .enough in omega arith
 
     jump-added-alike : ltb (reg (u .regs) 1) (u .n) ≡ true → Alike (jumpAdded s) (jumpAdded t)
     unfolding jumpAdded
@@ -184,7 +195,7 @@ module _ (u : Processor) (w o j r w′ o′ j′ r′ : List ℕ) where
           cpu = refl;
           words = al .words;
           owners = al .owners;
-          jumpers = same-joined (u .n) j j′ (reg (u .regs) 1) (u .prev) (long s zs j (is-sized s zs .jumpers)) (long t zt j′ (is-sized t zt .jumpers)) (al .jumpers) h;
+          jumpers = same-joined (u .n) j j′ (reg (u .regs) 1) (u .prev) (long s ls j (ls .jumpers)) (long t lt j′ (lt .jumpers)) (al .jumpers) h;
           writers = al .writers;
         }
 
@@ -196,7 +207,7 @@ module _ (u : Processor) (w o j r w′ o′ j′ r′ : List ℕ) where
           words = al .words;
           owners = al .owners;
           jumpers = al .jumpers;
-          writers = same-joined (u .n) r r′ (reg (u .regs) 1) (u .prev) (long s zs r (is-sized s zs .writers)) (long t zt r′ (is-sized t zt .writers)) (al .writers) h;
+          writers = same-joined (u .n) r r′ (reg (u .regs) 1) (u .prev) (long s ls r (ls .writers)) (long t lt r′ (lt .writers)) (al .writers) h;
         }
 
     commit-alike : verdict s ≡ answer.done → Alike (commit s) (commit t)
@@ -228,26 +239,27 @@ module _ (u : Processor) (w o j r w′ o′ j′ r′ : List ℕ) where
         go true e = simp (← verdict-eq, e) (commit-alike (eqb-true _ _ e))
         go false e = simp (← verdict-eq, e) al
 
--- ---- the theorem
+-- ---- the theorem, of states whose memories 14's test of the lengths lets pass
 
-pub step-alike : (s t : State) → sized s ≡ true → sized t ≡ true → Alike s t → (step s .answer ≡ step t .answer) × Alike (step s .state) (step t .state)
-step-alike s t zs zt al =
+pub step-alike : (s t : State) → Lent s → Lent t → Alike s t → (step s .answer ≡ step t .answer) × Alike (step s .state) (step t .state)
+step-alike s t ls lt al =
     let t′ : State = record { cpu = s .cpu; words = t .words; owners = t .owners; jumpers = t .jumpers; writers = t .writers } in
     let e : t ≡ t′ = λ i. record { cpu = sym (al .cpu) i; words = t .words; owners = t .owners; jumpers = t .jumpers; writers = t .writers } in
     subst (λ (q : State). (step s .answer ≡ step q .answer) × Alike (step s .state) (step q .state)) (sym e)
-    (both-step (s .cpu) (s .words) (s .owners) (s .jumpers) (s .writers) (t .words) (t .owners) (t .jumpers) (t .writers) zs (subst (λ (q : State). sized q ≡ true) e zt) (subst (Alike s) e al))
+    (both-step (s .cpu) (s .words) (s .owners) (s .jumpers) (s .writers) (t .words) (t .owners) (t .jumpers) (t .writers) ls (subst Lent e lt)
+    (subst (Alike s) e al))
 
 pub record AlikeRuns (a b : Ran) : Type 0 where
   pub answer : a .answer ≡ b .answer
   pub state : Alike (a .state) (b .state)
   pub count : a .count ≡ b .count
 
-pub run-alike : (k : ℕ) (s t : State) → sized s ≡ true → sized t ≡ true → Alike s t → AlikeRuns (run k s) (run k t)
+pub run-alike : (k : ℕ) (s t : State) → Lent s → Lent t → Alike s t → AlikeRuns (run k s) (run k t)
 unfolding run
-run-alike zero s t zs zt al = record { answer = refl; state = al; count = refl }
-run-alike (suc k) s t zs zt al =
-    let w = step-alike s t zs zt al in
-    go (eqb (step s .answer) answer.done) refl w (run-alike k (step s .state) (step t .state) (step-sized s ∙ zs) (step-sized t ∙ zt) (w .1))
+run-alike zero s t ls lt al = record { answer = refl; state = al; count = refl }
+run-alike (suc k) s t ls lt al =
+    let w = step-alike s t ls lt al in
+    go (eqb (step s .answer) answer.done) refl w (run-alike k (step s .state) (step t .state) (step-lent s ls) (step-lent t lt) (w .1))
   where
     go : (b : Bool) → eqb (step s .answer) answer.done ≡ b → (step s .answer ≡ step t .answer) × Alike (step s .state) (step t .state)
         → AlikeRuns (run k (step s .state)) (run k (step t .state)) → AlikeRuns (run (suc k) s) (run (suc k) t)

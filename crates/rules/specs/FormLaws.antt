@@ -1,4 +1,4 @@
--- What passing check 14 says of a state, as lengths and orders; and where the services stand.
+-- What passing checks 14 and 15 says of a state, as lengths and orders; and where the services stand.
 use mathlib.Core.Path.{_≡_, refl}
 use mathlib.Core.Bool.{Bool, true, false, _&&_}
 use Prim.Native.Nat.{ℕ, _-_, _≤_, _<_}
@@ -13,13 +13,17 @@ use Rattle.rules.specs.Checks.{sameLengths, sized, numbered, seated, for
 
 -- ---- the parts of 14
 
-pub record Sized (s : State) : Type 0 where
+-- memories of one length, N or longer
+pub record Lent (s : State) : Type 0 where
   pub owners : length (s .owners) ≡ length (s .words)
   pub jumpers : length (s .jumpers) ≡ length (s .words)
   pub writers : length (s .writers) ≡ length (s .words)
+  pub enough : s .cpu .n ≤ length (s .words)
+
+pub record Sized (s : State) : Type 0 where
+  pub lent : Lent s
   pub some : 1 ≤ s .cpu .n
   pub most : s .cpu .n ≤ 2048
-  pub lent : s .cpu .n ≤ length (s .words)
 
 pub is-sized : (s : State) → sized s ≡ true → Sized s
 unfolding sized sameLengths
@@ -30,12 +34,9 @@ is-sized s h =
     let d = both (eqb (length (s .owners)) (length (s .words)) && eqb (length (s .jumpers)) (length (s .words))) _ (c .0) in
     let e = both (eqb (length (s .owners)) (length (s .words))) _ (d .0) in
     record {
-      owners = eqb-true _ _ (e .0);
-      jumpers = eqb-true _ _ (e .1);
-      writers = eqb-true _ _ (d .1);
+      lent = record { owners = eqb-true _ _ (e .0); jumpers = eqb-true _ _ (e .1); writers = eqb-true _ _ (d .1); enough = leb-true _ _ (a .1) };
       some = leb-true _ _ (c .1);
       most = leb-true _ _ (b .1);
-      lent = leb-true _ _ (a .1);
     }
 
 pub record Numbered (s : State) : Type 0 where

@@ -193,8 +193,8 @@ call-arrives : (s : State) → sized s ≡ true → TagsAsLoaded s → reg (s .c
 unfolding isolated arrives mayJump jumpersAt inMemory joined serviceAt firstNumber serviceCount
 call-arrives s z t e =
     let f = is-sized s z in
-    let j : length (s .jumpers) ≡ length (s .words) = f .jumpers in
-    let k : s .cpu .n ≤ length (s .words) = f .lent in
+    let j : length (s .jumpers) ≡ length (s .words) = f .lent .jumpers in
+    let k : s .cpu .n ≤ length (s .words) = f .lent .enough in
     let m : 1 ≤ s .cpu .n = f .some in
     let l : ltb 0 (s .cpu .n) ≡ true = lt-ltb 0 (s .cpu .n) (omega arith) in
     let n : s .cpu .next ≡ 4 = t .next in

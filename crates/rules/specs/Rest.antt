@@ -1,8 +1,8 @@
 -- "No step changes a place from N on": whatever the state and the answer, the four memories keep their places from N on, and their lengths.
-use mathlib.Core.Path.{_≡_, refl, _∙_, subst}
+use mathlib.Core.Path.{_≡_, refl, sym, _∙_, subst}
 use mathlib.Core.Bool.{Bool, true, false}
 use mathlib.Core.List.{List}
-use Prim.Native.Nat.{ℕ}
+use Prim.Native.Nat.{ℕ, _≤_}
 use native.Mathlib.Omega.{arith}
 use borrow.Author.Tests.{ltb-true, le-ltb}
 use lib.Dec.{eqb}
@@ -17,6 +17,7 @@ use Rattle.rules.specs.State.{State, inMemory}
 use Rattle.rules.specs.Checks.{sameLengths, sized, target, wordVerdict}
 use Rattle.rules.specs.Step.{ranInstruction, owned, joined, joinAt, isolated, jumpAdded, storeAdded, step}
 use Rattle.rules.specs.Run.{run}
+use Rattle.rules.specs.FormLaws.{Lent}
 use Rattle.rules.specs.StepLaws.{store-inside, step-cases, run-keeps}
 use Rattle.rules.specs.Grows.{SameSizes, same-sizes, same-sizes-then, step-same-sizes, run-same-sizes}
 use Rattle.rules.specs.TagLaws.{length-map, drop-map}
@@ -117,7 +118,21 @@ run-keeps-rest k s =
     (λ t h. (same-sizes-then s t (step t .state) (h .0) (step-same-sizes t), kept-then s t (step t .state) (h .0 .n) (h .1) (step-keeps-rest t))) k s
     (same-sizes s, kept s) .1
 
--- so 14's test of the sizes answers the same after as before
+-- so memories of one length, N or longer, stay so
+pub step-lent : (s : State) → Lent s → Lent (step s .state)
+step-lent s l =
+    let k = step-keeps-rest s in
+    let w = k .words .same-length in
+    let e : step s .state .cpu .n ≡ s .cpu .n = step-same-sizes s .n in
+    let m : s .cpu .n ≤ length (s .words) = l .enough in
+    record {
+      owners = k .owners .same-length ∙ l .owners ∙ sym w;
+      jumpers = k .jumpers .same-length ∙ l .jumpers ∙ sym w;
+      writers = k .writers .same-length ∙ l .writers ∙ sym w;
+      enough = omega arith;
+    }
+
+-- and 14's test of the sizes answers the same after as before
 kept-sized : (s t : State) → t .cpu .n ≡ s .cpu .n → Kept s t → sized t ≡ sized s
 unfolding sized sameLengths
 kept-sized s t e k = simp (e, k .words .same-length, k .owners .same-length, k .jumpers .same-length, k .writers .same-length)
