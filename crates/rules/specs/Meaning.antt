@@ -1,0 +1,123 @@
+-- What the tests on sets of pairs mean: membership is the union, `within` is "each address passes", no pair is no address.
+use mathlib.Core.Path.{_≡_, refl, subst}
+use mathlib.Core.Bool.{Bool, true, false, or-true}
+use mathlib.Core.List.{List, [], _∷_}
+use mathlib.Core.Logic.{_↔_}
+use Prim.Native.Nat.{ℕ, zero, suc, _+_, _-_, _*_, _≤_, _<_}
+use native.Mathlib.Omega.{arith}
+use native.Mathlib.Decide.{ℕ-discrete}
+use borrow.Author.Tests.{ltb-true, leb-true, le-leb, lt-ltb}
+use lib.Dec.{ltb, leb}
+use lib.ListN.{getD}
+use Rattle.common.specs.Tests.{both, clash}
+use Rattle.common.specs.AddressSets.{Pair, pairsAt, setAt, ordered, isEmpty, inPair, inSet, allFrom, within}
+
+-- ---- one pair, and the pairs after it
+
+in-pair : (p : Pair) (x : ℕ) → inPair p x ≡ true → (p .first ≤ x) × (x < p .past)
+in-pair p x h = let v = both (leb (p .first) x) (ltb x (p .past)) h in (leb-true _ _ (v .0), ltb-true _ _ (v .1))
+
+in-first : (p : Pair) (ps : List Pair) (x : ℕ) → p .first ≤ x → x < p .past → inSet (p ∷ ps) x ≡ true
+unfolding inSet
+in-first p ps x l u = simp (le-leb (p .first) x l, lt-ltb x (p .past) u, or-true)
+
+in-rest : (p : Pair) (ps : List Pair) (x : ℕ) → inSet ps x ≡ true → inSet (p ∷ ps) x ≡ true
+unfolding inSet
+in-rest p ps x h = simp h
+
+-- ---- a set in memory
+
+-- pair i of those at place p has x
+pub record Among (words : List ℕ) (p k x : ℕ) : Type 0 where
+  pub index : ℕ
+  pub counted : index < k
+  pub from : getD words (p + 2 * index) 0 ≤ x
+  pub below : x < getD words (p + 2 * index + 1) 0
+
+among-pairs : (words : List ℕ) (p k x : ℕ) → inSet (pairsAt words p k) x ≡ true → Among words p k x
+unfolding inSet pairsAt
+among-pairs words p zero x h = clash h refl
+among-pairs words p (suc k) x h = go (inSet (pairsAt words p k) x) refl (among-pairs words p k x)
+  where
+    pair : Pair
+    pair = record { first = getD words (p + 2 * k) 0; past = getD words (p + 2 * k + 1) 0 }
+
+    go : (b : Bool) → inSet (pairsAt words p k) x ≡ b → (inSet (pairsAt words p k) x ≡ true → Among words p k x) → Among words p (suc k) x
+    go true e ih = let a = ih e in record { index = a .index; counted = omega arith; from = a .from; below = a .below }
+    go false e ih = let r = in-pair pair x (simp e at h) in record { index = k; counted = omega arith; from = r .0; below = r .1 }
+
+pairs-among : (words : List ℕ) (p k x : ℕ) → Among words p k x → inSet (pairsAt words p k) x ≡ true
+unfolding pairsAt
+pairs-among words p zero x a = let c : a .index < 0 = a .counted in absurd (omega arith)
+pairs-among words p (suc k) x a = go (ℕ-discrete (a .index) k) (pairs-among words p k x)
+  where
+    go : Dec (a .index ≡ k) → (Among words p k x → inSet (pairsAt words p k) x ≡ true) → inSet (pairsAt words p (suc k)) x ≡ true
+    go (yes e) ih =
+        let f : getD words (p + 2 * k) 0 ≤ x = subst (λ (i : ℕ). getD words (p + 2 * i) 0 ≤ x) e (a .from) in
+        let l : x < getD words (p + 2 * k + 1) 0 = subst (λ (i : ℕ). x < getD words (p + 2 * i + 1) 0) e (a .below) in
+        in-first _ (pairsAt words p k) x f l
+    go (no e) ih =
+        let c : a .index < suc k = a .counted in
+        in-rest _ (pairsAt words p k) x (ih (record { index = a .index; counted = omega arith; from = a .from; below = a .below }))
+
+-- "A set is a count k, then k pairs (first, past); it means the union of first .. past-1"
+pub in-set-iff : (words : List ℕ) (q x : ℕ) → (inSet (setAt words q) x ≡ true) ↔ Among words (q + 1) (getD words q 0) x
+unfolding setAt
+in-set-iff words q x = (among-pairs words (q + 1) (getD words q 0) x, pairs-among words (q + 1) (getD words q 0) x)
+
+-- ---- within
+
+all-at : (test : ℕ → Bool) (k x y : ℕ) → allFrom test x k ≡ true → x ≤ y → y < x + k → test y ≡ true
+unfolding allFrom
+all-at test zero x y h l u = absurd (omega arith)
+all-at test (suc k) x y h l u = go (ℕ-discrete x y) (both (test x) (allFrom test (suc x) k) h) (all-at test k (suc x) y)
+  where
+    go : Dec (x ≡ y) → (test x ≡ true) × (allFrom test (suc x) k ≡ true) → (allFrom test (suc x) k ≡ true → suc x ≤ y → y < suc x + k → test y ≡ true)
+        → test y ≡ true
+    go (yes e) w ih = subst (λ (z : ℕ). test z ≡ true) e (w .0)
+    go (no e) w ih = ih (w .1) (omega arith) (omega arith)
+
+at-all : (test : ℕ → Bool) (k x : ℕ) → ((y : ℕ) → x ≤ y → y < x + k → test y ≡ true) → allFrom test x k ≡ true
+unfolding allFrom
+at-all test zero x h = refl
+at-all test (suc k) x h =
+    let a : test x ≡ true = h x (omega arith) (omega arith) in
+    let b : allFrom test (suc x) k ≡ true = at-all test k (suc x) (λ y l u. h y (omega arith) (omega arith)) in
+    simp (a, b)
+
+pub within-at : (ps : List Pair) (test : ℕ → Bool) (x : ℕ) → within ps test ≡ true → inSet ps x ≡ true → test x ≡ true
+unfolding within inSet
+within-at [] test x h e = clash e refl
+within-at (p ∷ ps) test x h e = go (inSet ps x) refl (both (within ps test) (allFrom test (p .first) (p .past - p .first)) h) (within-at ps test x)
+  where
+    go : (b : Bool) → inSet ps x ≡ b → (within ps test ≡ true) × (allFrom test (p .first) (p .past - p .first) ≡ true)
+        → (within ps test ≡ true → inSet ps x ≡ true → test x ≡ true) → test x ≡ true
+    go true g w ih = ih (w .0) g
+    go false g w ih =
+        let r = in-pair p x (simp g at e) in
+        let l : p .first ≤ x = r .0 in
+        let u : x < p .past = r .1 in
+        all-at test (p .past - p .first) (p .first) x (w .1) l (omega arith)
+
+at-within : (ps : List Pair) (test : ℕ → Bool) → ((x : ℕ) → inSet ps x ≡ true → test x ≡ true) → within ps test ≡ true
+unfolding within
+at-within [] test h = refl
+at-within (p ∷ ps) test h =
+    let a : within ps test ≡ true = at-within ps test (λ x e. h x (in-rest p ps x e)) in
+    let b : allFrom test (p .first) (p .past - p .first) ≡ true = at-all test (p .past - p .first) (p .first) (λ y l u. h y (in-first p ps y l (omega arith))) in
+    simp (a, b)
+
+pub within-iff : (ps : List Pair) (test : ℕ → Bool) → (within ps test ≡ true) ↔ ((x : ℕ) → inSet ps x ≡ true → test x ≡ true)
+within-iff ps test = (λ h x e. within-at ps test x h e, at-within ps test)
+
+-- ---- empty
+
+-- of a set that passed 8: there is no pair exactly where there is no address
+pub empty-iff : (ps : List Pair) → ordered ps ≡ true → (isEmpty ps ≡ true) ↔ ((x : ℕ) → inSet ps x ≡ false)
+unfolding isEmpty inSet ordered
+empty-iff [] o = (λ h x. refl, λ h. refl)
+empty-iff (p ∷ ps) o = (
+  λ h. clash h refl,
+  λ h. let u : p .first < p .past = ltb-true _ _ (both (ordered ps) (ltb (p .first) (p .past)) o .1) in
+      clash (in-first p ps (p .first) (omega arith) u) (h (p .first)),
+)
