@@ -6,8 +6,10 @@ ghost use Rattle.rules.specs.Checks.{formed};
 ghost use Rattle.rules.specs.Step.{step};
 ghost use Rattle.rules.specs.Run.{run};
 ghost use Rattle.moves.specs.Applied.{putReg, putWord};
-ghost use Rattle.machine.specs.Views.{cpuOf, stateOf, steppedOf, ranOf};
+ghost use Rattle.machine.specs.Views.{cpuOf, stateOf, steppedOf, ranOf, addedOf};
+ghost use Rattle.machine.specs.ServiceLaws.{arrivesBy, backWith, addedBy};
 ghost use Rattle.machine.specs.Form.{sizedBy, numberedBy, seatedBy, formedBy};
+use compartments::Set;
 
 #[repr(C)]
 pub struct Processor {
@@ -125,6 +127,87 @@ impl Processor {
         is_seated(self.prev, self.pc)
     }
 
+    // 4 at a service: the flag is set and the caller is in the service's set. No service calls (14).
+    fn arrives(self, gate: u64) -> bool
+        ensures { λ r. ⌜ r ≡ arrivesBy (cpuOf self) gate ⌝ }
+    {
+        if !self.jumped {
+            return false;
+        }
+        Set(gate).contains(self.prev)
+    }
+
+    // After a service that ran: back at r15 with the service's number.
+    fn returned(mut self, number: u32, next: u32, services: [u64; 3]) -> Processor
+        ensures { λ r. ⌜ cpuOf r ≡ backWith (cpuOf self) number next services ⌝ }
+    {
+        self.pc = self.regs[15];
+        self.prev = number;
+        self.jumped = true;
+        self.next = next;
+        self.services = services;
+        self
+    }
+
+    // At 4096.
+    fn isolate(
+        self,
+        words: &[u32],
+        owners: &mut [u32],
+        jumpers: &mut [u64],
+        writers: &mut [u64],
+    ) -> Stepped
+        requires { ⌜ (formed (stateOf self (now words) (now owners) (now jumpers) (now writers)) ≡ true) × (self .n ≤ self .pc) × (self .pc ≡ 4096) ⌝ }
+        ensures { λ r. ⌜ steppedOf r (now (words .entry)) (now (owners .exit)) (now (jumpers .exit)) (now (writers .exit)) ≡ step (stateOf self (now (words .entry)) (now (owners .entry)) (now (jumpers .entry)) (now (writers .entry))) ⌝ }
+    {
+        if !self.arrives(self.services[0]) {
+            return Stepped {
+                cpu: self,
+                answer: answers::NO_ARRIVAL,
+            };
+        }
+        let i = monitor::isolate(
+            &self.regs,
+            self.n,
+            self.prev,
+            self.next,
+            self.services,
+            words,
+            owners,
+            jumpers,
+            writers,
+        );
+        let answer = i.answer;
+        if answer != answers::DONE {
+            return Stepped { cpu: self, answer };
+        }
+        let services = i.services;
+        Stepped {
+            cpu: self.returned(1, self.next + 1, services),
+            answer,
+        }
+    }
+
+    // At 4097 over the jumpers, at 4098 over the writers: a service's number and its set.
+    fn add_target(self, number: u32, gate: u64, owners: &[u32], sets: &mut [u64]) -> Stepped
+        ensures { λ r. ⌜ addedOf r (now (sets .exit)) ≡ addedBy (cpuOf self) number gate (now (owners .entry)) (now (sets .entry)) ⌝ }
+    {
+        if !self.arrives(gate) {
+            return Stepped {
+                cpu: self,
+                answer: answers::NO_ARRIVAL,
+            };
+        }
+        let answer = monitor::add_target(&self.regs, self.n, self.prev, owners, sets);
+        if answer != answers::DONE {
+            return Stepped { cpu: self, answer };
+        }
+        Stepped {
+            cpu: self.returned(number, self.next, self.services),
+            answer,
+        }
+    }
+
     // Not at a memory word: 2, or a service.
     fn outside(
         self,
@@ -136,9 +219,15 @@ impl Processor {
         requires { ⌜ (formed (stateOf self (now words) (now owners) (now jumpers) (now writers)) ≡ true) × (self .n ≤ self .pc) ⌝ }
         ensures { λ r. ⌜ steppedOf r (now (words .entry)) (now (owners .exit)) (now (jumpers .exit)) (now (writers .exit)) ≡ step (stateOf self (now (words .entry)) (now (owners .entry)) (now (jumpers .entry)) (now (writers .entry))) ⌝ }
     {
-        Stepped {
-            cpu: self,
-            answer: answers::NO_PLACE,
+        let pc = self.pc;
+        match pc {
+            4096 => self.isolate(words, owners, jumpers, writers),
+            4097 => self.add_target(2, self.services[1], owners, jumpers),
+            4098 => self.add_target(3, self.services[2], owners, writers),
+            _ => Stepped {
+                cpu: self,
+                answer: answers::NO_PLACE,
+            },
         }
     }
 

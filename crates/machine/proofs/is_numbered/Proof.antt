@@ -1,18 +1,14 @@
+-- `is_numbered`, test by test.
 use borrow.Author.Tests.{le-leb, lt-leb}
 use Rattle.machine.proofs.is_numbered.Statement.{statement}
 use Rattle.machine.proofs.is_numbered.Tie as tie
-use Rattle.machine.proofs.is_numbered.Reads as reads
-use Rattle.machine.proofs.is_numbered.Lts as lts
 
--- src/lib.rt:67:9
 returns : tie.Need-returns
 returns c = simp (lt-leb _ _ (c .if1 .taken))
 
--- src/lib.rt:70:9
 returns-2 : tie.Need-returns-2
 returns-2 c = simp (le-leb _ _ (c .before .if1 .left), lt-leb _ _ (c .if2 .taken))
 
--- src/lib.rt:63:1
 returns-3 : tie.Need-returns-3
 returns-3 c = simp (le-leb _ _ (c .before .if1 .left), le-leb _ _ (c .if2 .left))
 

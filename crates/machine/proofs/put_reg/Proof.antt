@@ -1,25 +1,20 @@
+-- `put_reg`, test by test.
 use borrow.Author.Tests.{le-ltb, lt-ltb}
 use Rattle.moves.specs.Applied.{putReg}
 use borrow.Author.Needs.{needs}
 use Rattle.machine.proofs.put_reg.Statement.{statement}
 use Rattle.machine.proofs.put_reg.Tie as tie
-use Rattle.machine.proofs.put_reg.Reads as reads
-use Rattle.machine.proofs.put_reg.Lts as lts
 
--- src/lib.rt:97:9
 mul-regs : tie.Need-mul-regs
 mul-regs c = search needs
 
--- src/lib.rt:97:9
 element-write-regs : tie.Need-element-write-regs
 element-write-regs c = search needs
 
--- src/lib.rt:92:1
 returns : tie.Need-returns
 unfolding putReg
 returns c = simp (lt-ltb _ _ (c .if1 .taken))
 
--- src/lib.rt:92:1
 returns-2 : tie.Need-returns-2
 unfolding putReg
 returns-2 c = simp (le-ltb _ _ (c .if1 .left))

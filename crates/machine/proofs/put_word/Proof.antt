@@ -1,3 +1,4 @@
+-- `put_word`, test by test.
 use borrow.Author.Tests.{le-ltb, lt-ltb}
 use mathlib.Core.Path.{sym, _∙_}
 use lib.Seq.{set-out}
@@ -5,32 +6,24 @@ use Rattle.moves.specs.Applied.{putWord}
 use borrow.Author.Needs.{needs}
 use Rattle.machine.proofs.put_word.Statement.{statement}
 use Rattle.machine.proofs.put_word.Tie as tie
-use Rattle.machine.proofs.put_word.Reads as reads
-use Rattle.machine.proofs.put_word.Lts as lts
 
--- src/lib.rt:108:13
 mul-words : tie.Need-mul-words
 mul-words c = search needs
 
--- src/lib.rt:108:13
 slice-write-words : tie.Need-slice-write-words
 slice-write-words c = search needs
 
--- src/lib.rt:102:1
 same-length : tie.Need-same-length
 same-length c = search needs
 
--- src/lib.rt:102:1
 returns : tie.Need-returns
 unfolding putWord
 returns c = simp (lt-ltb _ _ (c .before .if1 .taken))
 
--- src/lib.rt:102:1
 returns-2 : tie.Need-returns-2
 unfolding putWord
 returns-2 c = simp (lt-ltb _ _ (c .before .if1 .taken)) (sym (set-out (c .before .before .args .words .now) (c .before .before .args .place) (c .before .before .args .word) (c .if2 .left)))
 
--- src/lib.rt:102:1
 returns-3 : tie.Need-returns-3
 unfolding putWord
 returns-3 c = simp (le-ltb _ _ (c .if1 .left))

@@ -1,3 +1,4 @@
+-- `is_formed`, return by return, by the laws of the machine's specs.
 use borrow.Author.Tests.{not-true, not-false}
 use mathlib.Core.Path.{_≡_}
 use mathlib.Core.Bool.{true, false}
@@ -5,37 +6,26 @@ use Rattle.machine.specs.Form.{formedBy}
 use borrow.Author.Needs.{needs}
 use Rattle.machine.proofs.Processor.is_formed.Statement.{statement}
 use Rattle.machine.proofs.Processor.is_formed.Tie as tie
-use Rattle.machine.proofs.Processor.is_formed.Reads as reads
-use Rattle.machine.proofs.Processor.is_formed.Lts as lts
-use Rattle.machine.proofs.is_numbered.Reads as is-numbered-reads
-use Rattle.machine.proofs.is_seated.Reads as is-seated-reads
-use Rattle.machine.proofs.is_sized.Reads as is-sized-reads
 
--- src/lib.rt:118:13
 is-sized-requires : tie.Need-is-sized-requires
 is-sized-requires c κs = search needs
 
--- src/lib.rt:119:13
 returns : tie.Need-returns
 unfolding formedBy
 returns c = let a : c .before .is-sized .result ≡ false = not-true _ (c .if1 .taken) in simp (← c .before .is-sized .ensures, a)
 
--- src/lib.rt:121:13
 is-numbered-requires : tie.Need-is-numbered-requires
 is-numbered-requires c κs = search needs
 
--- src/lib.rt:122:13
 returns-2 : tie.Need-returns-2
 unfolding formedBy
 returns-2 c = let a : c .before .before .before .is-sized .result ≡ true = not-false _ (c .before .before .if1 .left) in
     let b : c .before .is-numbered .result ≡ false = not-true _ (c .if2 .taken) in
     simp (← c .before .before .before .is-sized .ensures, a, ← c .before .is-numbered .ensures, b)
 
--- src/lib.rt:124:9
 is-seated-requires : tie.Need-is-seated-requires
 is-seated-requires c κs = search needs
 
--- src/lib.rt:115:5
 returns-3 : tie.Need-returns-3
 unfolding formedBy
 returns-3 c = let a : c .before .before .before .before .is-sized .result ≡ true = not-false _ (c .before .before .before .if1 .left) in

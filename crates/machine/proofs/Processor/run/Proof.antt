@@ -1,19 +1,12 @@
+-- `run`, return by return, by the laws of the machine's specs.
 use Prim.Native.Nat.{_<_, _-_}
 use native.Mathlib.Omega.{arith}
 use mathlib.Core.Path.{_∙_}
 use borrow.Author.Needs.{needs}
 use Rattle.machine.specs.Views.{stateOf}
 use Rattle.machine.specs.RunLaws.{Going, nothing, unformed, starts, all-used, stops, turns, word-stops, word-turns}
--- src/lib.rt:158:13
 use Rattle.machine.proofs.Processor.run.Statement.{statement}
 use Rattle.machine.proofs.Processor.run.Tie as tie
-use Rattle.machine.proofs.Processor.run.Reads as reads
-use Rattle.machine.proofs.Processor.run.Lts as lts
-use Rattle.machine.proofs.Processor.is_formed.Reads as is-formed-reads
-use Rattle.machine.proofs.Processor.outside.Reads as outside-reads
-use Rattle.machine.proofs.put_reg.Reads as put-reg-reads
-use Rattle.machine.proofs.put_word.Reads as put-word-reads
-use Rattle.moves.proofs.decide.Reads as decide-reads
 
 abbrev Inv-loop : tie.InvT-loop
 Inv-loop words₀ owners₀ jumpers₀ writers₀ budget self₀ count₀ words owners jumpers writers self count =
@@ -22,120 +15,91 @@ Inv-loop words₀ owners₀ jumpers₀ writers₀ budget self₀ count₀ words 
 abbrev μ-loop : tie.MeasureT-loop
 μ-loop words₀ owners₀ jumpers₀ writers₀ budget self₀ count₀ words owners jumpers writers self count = budget - count
 
--- src/lib.rt:159:13
 returns : tie.Need-returns Inv-loop μ-loop
 returns c = nothing _ _ (c .if1 .taken)
 
--- src/lib.rt:165:13
 is-formed-requires : tie.Need-is-formed-requires Inv-loop μ-loop
 is-formed-requires c κs = search needs
 
--- src/lib.rt:166:13
 returns-2 : tie.Need-returns-2 Inv-loop μ-loop
 returns-2 c = unformed _ _ _ (c .before .is-formed .ensures) (c .before .before .if1 .left) (c .if2 .taken)
 
--- src/lib.rt:172:9
 loop-holds : tie.Need-loop-holds Inv-loop μ-loop
 loop-holds c = (starts _ _ _ (c .before .is-formed .ensures) (c .if2 .left), omega arith)
 
--- src/lib.rt:174:21
 outside-requires : tie.Need-outside-requires Inv-loop μ-loop
 outside-requires c κs = let x = c .before .before .before .before .before .before .loop in (x .inv .0 .form, c .before .before .before .before .if3 .taken)
 
--- src/lib.rt:178:21
 same-length : tie.Need-same-length Inv-loop μ-loop
 same-length c = let x = c .before .before .before .before .before .before .before .before .before .before .before .before .before .before .before .loop in x .inv .0 .words
 
--- src/lib.rt:178:21
 same-length-2 : tie.Need-same-length-2 Inv-loop μ-loop
 same-length-2 c = let x = c .before .before .before .before .before .before .before .before .before .before .before .before .before .before .before .loop in c .before .before .before .before .before .before .before .before .outside .kept .1 .1 .0 ∙ x .inv .0 .owners
 
--- src/lib.rt:178:21
 same-length-3 : tie.Need-same-length-3 Inv-loop μ-loop
 same-length-3 c = let x = c .before .before .before .before .before .before .before .before .before .before .before .before .before .before .before .loop in c .before .before .before .before .before .before .before .before .outside .kept .1 .1 .1 .0 ∙ x .inv .0 .jumpers
 
--- src/lib.rt:178:21
 same-length-4 : tie.Need-same-length-4 Inv-loop μ-loop
 same-length-4 c = let x = c .before .before .before .before .before .before .before .before .before .before .before .before .before .before .before .loop in c .before .before .before .before .before .before .before .before .outside .kept .1 .1 .1 .1 .0 ∙ x .inv .0 .writers
 
--- src/lib.rt:178:21
 returns-3 : tie.Need-returns-3 Inv-loop μ-loop
 returns-3 c = let x = c .before .before .before .before .before .before .before .before .before .before .before .before .before .before .before .loop in stops _ _ _ _ (x .inv .0) (c .before .before .before .before .before .before .before .before .before .before .before .before .before .before .loop-test .taken) _ (c .before .before .before .before .before .before .before .before .outside .ensures) (c .if4 .taken)
 
--- src/lib.rt:181:17
 add-count : tie.Need-add-count Inv-loop μ-loop
 add-count c = omega arith
 
--- src/lib.rt:172:9
 loop-less : tie.Need-loop-less Inv-loop μ-loop
 loop-less c = omega arith
 
--- src/lib.rt:172:9
 loop-again : tie.Need-loop-again Inv-loop μ-loop
 loop-again c = let x = c .before .before .before .before .before .before .before .before .before .before .before .before .before .before .before .loop in (turns _ _ _ _ (x .inv .0) (c .before .before .before .before .before .before .before .before .before .before .before .before .before .before .loop-test .taken) _ (c .before .before .before .before .before .before .before .before .outside .ensures) (c .if4 .left), x .inv .1)
 
--- src/lib.rt:184:17
 decide-requires : tie.Need-decide-requires Inv-loop μ-loop
 decide-requires c κs = search needs
 
--- src/lib.rt:198:17
 same-length-5 : tie.Need-same-length-5 Inv-loop μ-loop
 same-length-5 c = let x = c .before .before .before .before .before .before .before .before .before .before .loop in x .inv .0 .words
 
--- src/lib.rt:198:17
 same-length-6 : tie.Need-same-length-6 Inv-loop μ-loop
 same-length-6 c = let x = c .before .before .before .before .before .before .before .before .before .before .loop in x .inv .0 .owners
 
--- src/lib.rt:198:17
 same-length-7 : tie.Need-same-length-7 Inv-loop μ-loop
 same-length-7 c = let x = c .before .before .before .before .before .before .before .before .before .before .loop in x .inv .0 .jumpers
 
--- src/lib.rt:198:17
 same-length-8 : tie.Need-same-length-8 Inv-loop μ-loop
 same-length-8 c = let x = c .before .before .before .before .before .before .before .before .before .before .loop in x .inv .0 .writers
 
--- src/lib.rt:198:17
 returns-4 : tie.Need-returns-4 Inv-loop μ-loop
 returns-4 c = let x = c .before .before .before .before .before .before .before .before .before .before .loop in word-stops _ _ _ _ (x .inv .0) (c .before .before .before .before .before .before .before .before .before .loop-test .taken) (c .before .before .before .before .before .before .before .before .if3 .left) _ (c .before .decide .ensures) (c .if5 .taken)
 
--- src/lib.rt:204:13
 put-reg-requires : tie.Need-put-reg-requires Inv-loop μ-loop
 put-reg-requires c κs = search needs
 
--- src/lib.rt:205:13
 put-word-requires : tie.Need-put-word-requires Inv-loop μ-loop
 put-word-requires c κs = search needs
 
--- src/lib.rt:209:13
 add-count-2 : tie.Need-add-count-2 Inv-loop μ-loop
 add-count-2 c = omega arith
 
--- src/lib.rt:172:9
 loop-less-2 : tie.Need-loop-less-2 Inv-loop μ-loop
 loop-less-2 c = omega arith
 
--- src/lib.rt:172:9
 loop-again-2 : tie.Need-loop-again-2 Inv-loop μ-loop
 loop-again-2 c = let x = c .before .before .before .before .before .before .before .before .before .before .before .before .before .before .before .before .loop in
     (word-turns _ _ _ _ (x .inv .0) (c .before .before .before .before .before .before .before .before .before .before .before .before .before .before .before .loop-test .taken) (c .before .before .before .before .before .before .before .before .before .before .before .before .before .before .if3 .left) _ (c .before .before .before .before .before .before .before .decide .ensures) (c .before .before .before .before .before .before .if5 .left) _ _ (c .before .before .before .before .put-reg .ensures) (c .before .before .put-word .ensures), x .inv .1)
 
--- src/lib.rt:147:5
 same-length-9 : tie.Need-same-length-9 Inv-loop μ-loop
 same-length-9 c = let x = c .before .loop in x .inv .0 .words
 
--- src/lib.rt:147:5
 same-length-10 : tie.Need-same-length-10 Inv-loop μ-loop
 same-length-10 c = let x = c .before .loop in x .inv .0 .owners
 
--- src/lib.rt:147:5
 same-length-11 : tie.Need-same-length-11 Inv-loop μ-loop
 same-length-11 c = let x = c .before .loop in x .inv .0 .jumpers
 
--- src/lib.rt:147:5
 same-length-12 : tie.Need-same-length-12 Inv-loop μ-loop
 same-length-12 c = let x = c .before .loop in x .inv .0 .writers
 
--- src/lib.rt:147:5
 returns-5 : tie.Need-returns-5 Inv-loop μ-loop
 returns-5 c = let x = c .before .loop in all-used _ _ _ _ (x .inv .0) (c .loop-test .left)
 

@@ -1,32 +1,24 @@
+-- `step`, return by return, by the laws of the machine's specs.
 use Rattle.machine.specs.RunLaws.{run-one}
 use borrow.Author.Needs.{needs}
 use Rattle.machine.proofs.Processor.step.Statement.{statement}
 use Rattle.machine.proofs.Processor.step.Tie as tie
-use Rattle.machine.proofs.Processor.step.Reads as reads
-use Rattle.machine.proofs.Processor.step.Lts as lts
-use Rattle.machine.proofs.Processor.run.Reads as run-reads
 
--- src/lib.rt:228:13
 run-requires : tie.Need-run-requires
 run-requires c κs = search needs
 
--- src/lib.rt:219:5
 same-length : tie.Need-same-length
 same-length c = search needs
 
--- src/lib.rt:219:5
 same-length-2 : tie.Need-same-length-2
 same-length-2 c = search needs
 
--- src/lib.rt:219:5
 same-length-3 : tie.Need-same-length-3
 same-length-3 c = search needs
 
--- src/lib.rt:219:5
 same-length-4 : tie.Need-same-length-4
 same-length-4 c = search needs
 
--- src/lib.rt:219:5
 returns : tie.Need-returns
 returns c = run-one _ _ (c .before .before .before .before .before .before .before .before .before .run .ensures)
 
