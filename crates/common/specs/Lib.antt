@@ -7,3 +7,4 @@ pub mod WordLaws
 pub mod Instructions
 pub mod Services
 pub mod AddressSets
+pub mod AddressSetLaws

@@ -7,3 +7,8 @@ pub mod Run
 pub mod Images
 pub mod SheetImages
 pub mod Lines
+pub mod Match
+pub mod Verdicts
+pub mod TagLaws
+pub mod Passed
+pub mod Commits
