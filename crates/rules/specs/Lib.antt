@@ -12,3 +12,5 @@ pub mod Verdicts
 pub mod TagLaws
 pub mod Passed
 pub mod Commits
+pub mod Isolate
+pub mod OneStep

@@ -1,0 +1,86 @@
+-- What holds of the abstract machine by itself: no answer above 12, and compartments are never fewer.
+use mathlib.Core.Path.{_≡_, refl, ap, _∙_, sym}
+use mathlib.Core.Bool.{Bool, true, false, cond}
+use mathlib.Core.List.{List}
+use Prim.Native.Nat.{ℕ, zero, suc, _≤_}
+use native.Mathlib.Omega.{arith}
+use native.Mathlib.Nat.{le-trans, le-refl}
+use borrow.Author.Tests.{leb-true, ne-eqb}
+use lib.Dec.{leb, eqb}
+use lib.ListN.{length, length-set}
+use Rattle.common.specs.Answers as answer
+use Rattle.common.specs.Instructions.{reg}
+use Rattle.common.specs.Services.{isolate, add-jump-target}
+use Rattle.common.specs.AddressSets.{inSet}
+use Rattle.paper.specs.Abstract.{Comp, State, comp, inMemory, instructionAt, storeVerdict, instructionVerdict, wordVerdict, ranInstruction, isolateVerdict, addVerdict, serviceVerdict, moreJ, moreS, setA, setJ, setS, isolated, jumpAdded, storeAdded, ranService, verdict, commit, Stepped, step, Ran, oneMore, ended, run}
+use Rattle.paper.specs.CompLaws.{split-length}
+
+-- ---- answers
+
+leb-cond : (b : Bool) (x y k : ℕ) → leb (cond b x y) k ≡ cond b (leb x k) (leb y k)
+leb-cond true x y k = refl
+leb-cond false x y k = refl
+
+cond-true : (b : Bool) → cond b true true ≡ true
+cond-true true = refl
+cond-true false = refl
+
+pub abstract-answers : (a : State) → verdict a ≤ answer.no-return
+unfolding verdict wordVerdict instructionVerdict storeVerdict serviceVerdict isolateVerdict addVerdict
+abstract-answers a = let h : leb (verdict a) 12 ≡ true = simp (leb-cond, cond-true) in leb-true _ _ h
+
+-- ---- a run, one step after the other
+
+module _ (k : ℕ) (a : State) where
+  pub run-more : step a .answer ≡ answer.done → run (suc k) a ≡ oneMore (run k (step a .state))
+  unfolding run
+  run-more h = simp h
+
+  pub run-stop : (step a .answer ≡ answer.done → ⊥) → run (suc k) a ≡ ended (step a .answer) (step a .state)
+  unfolding run
+  run-stop h = simp (ne-eqb (step a .answer) answer.done h)
+
+-- what every step keeps, a run keeps
+pub run-keeps : (Q : State → Type 0) → ((a : State) → Q a → Q (step a .state)) → (n : ℕ) (a : State) → Q a → Q (run n a .state)
+unfolding run
+run-keeps Q keeps zero a q = q
+run-keeps Q keeps (suc n) a q = go (eqb (step a .answer) answer.done) (keeps a q) (run-keeps Q keeps n (step a .state))
+  where
+    go : (b : Bool) → Q (step a .state) → (Q (step a .state) → Q (run n (step a .state) .state))
+        → Q (cond b (oneMore (run n (step a .state))) (ended (step a .answer) (step a .state)) .state)
+    go true h ih = ih h
+    go false h ih = h
+
+pub run-answers : (n : ℕ) (a : State) → run n a .answer ≤ answer.no-return
+unfolding run step
+run-answers zero a = omega arith
+run-answers (suc n) a = go (eqb (verdict a) answer.done) (abstract-answers a) (run-answers n (step a .state))
+  where
+    go : (b : Bool) → verdict a ≤ 12 → run n (step a .state) .answer ≤ 12 → cond b (oneMore (run n (step a .state))) (ended (verdict a) (step a .state)) .answer ≤ 12
+    go true h k = k
+    go false h k = h
+
+-- ---- compartments
+
+pub isolated-more : (a : State) → length (isolated a .comps) ≡ suc (length (a .comps))
+unfolding isolated
+isolated-more a = split-length (a .comps) (a .prev) (record { A = inSet (setA a); J = inSet (setJ a); S = inSet (setS a) })
+
+pub step-grows : (a : State) → length (a .comps) ≤ length (step a .state .comps)
+unfolding step commit ranService ranInstruction jumpAdded storeAdded
+step-grows a = go (eqb (verdict a) answer.done) (inMemory a (a .pc)) (eqb (a .pc) isolate) (eqb (a .pc) add-jump-target)
+  where
+    go : (b c d e : Bool)
+        → length (a .comps) ≤ length (cond b (cond c (ranInstruction a (instructionAt a)) (cond d (isolated a) (cond e (jumpAdded a) (storeAdded a)))) a .comps)
+    go false c d e = le-refl (length (a .comps))
+    go true true d e = le-refl (length (a .comps))
+    go true false true e = let h : length (isolated a .comps) ≡ suc (length (a .comps)) = isolated-more a in omega arith
+    go true false false true =
+        let h : length (jumpAdded a .comps) ≡ length (a .comps) = length-set (a .comps) (a .prev) (moreJ (comp (a .comps) (a .prev)) (reg (a .regs) 1)) in
+        omega arith
+    go true false false false =
+        let h : length (storeAdded a .comps) ≡ length (a .comps) = length-set (a .comps) (a .prev) (moreS (comp (a .comps) (a .prev)) (reg (a .regs) 1)) in
+        omega arith
+
+pub run-grows : (n : ℕ) (a : State) → length (a .comps) ≤ length (run n a .state .comps)
+run-grows n a = run-keeps (λ b. length (a .comps) ≤ length (b .comps)) (λ b h. le-trans h (step-grows b)) n a (le-refl (length (a .comps)))
