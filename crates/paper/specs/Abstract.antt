@@ -51,10 +51,14 @@ inMemory a x = ltb x (length (a .words))
 
 -- ---- the initial configuration
 
--- each service address has a compartment of its own, which may jump anywhere in memory: k of them, from the i-th on
+-- the i-th service address has a compartment of its own, which may jump anywhere in memory
+abbrev pub serviceComp : ℕ → ℕ → Comp
+serviceComp n i = record { A = λ x. eqb x (isolate + i); J = λ x. ltb x n; S = λ x. false }
+
+-- k of them, from the i-th on
 unfoldable pub serviceComps : ℕ → ℕ → ℕ → List Comp
 serviceComps n i zero = []
-serviceComps n i (suc k) = record { A = λ x. eqb x (isolate + i); J = λ x. ltb x n; S = λ x. false } ∷ serviceComps n (suc i) k
+serviceComps n i (suc k) = serviceComp n i ∷ serviceComps n (suc i) k
 
 -- all n words lie in one compartment, which may jump to the services
 unfoldable pub initialComps : ℕ → List Comp

@@ -1,17 +1,17 @@
 -- Laws of lists of compartments: where one is changed, where one is split in two, and which one holds an address.
-use mathlib.Core.Path.{_≡_, refl, sym, ap, _∙_, subst}
-use mathlib.Core.Bool.{Bool, true, false, _&&_, _||_, not, or-false, and-false, and-true}
+use mathlib.Core.Path.{_≡_, refl, sym, ap, ap₂, _∙_, subst}
+use mathlib.Core.Bool.{Bool, true, false, cond, _&&_, _||_, not, or-false, and-false, and-true}
 use mathlib.Core.List.{List, [], _∷_, _++_}
 use mathlib.Core.Logic.{_≢_}
 use Prim.Native.Nat.{ℕ, zero, suc, _+_, _≤_, _<_}
 use native.Mathlib.Omega.{arith}
-use native.Mathlib.Nat.{not-suc-le-zero, le-of-suc-le-suc}
+use native.Mathlib.Nat.{not-suc-le-zero, le-of-suc-le-suc, add-zero}
 use native.Mathlib.Decide.{ℕ-discrete}
-use borrow.Author.Tests.{ltb-true, ltb-false, eq-eqb, ne-eqb}
-use lib.Dec.{ltb, eqb, eqb·suc-suc, eqb·suc-zero}
+use borrow.Author.Tests.{ltb-true, ltb-false, lt-ltb, le-ltb, eq-eqb, ne-eqb}
+use lib.Dec.{ltb, eqb, leb·suc-suc, eqb·suc-suc, eqb·suc-zero}
 use lib.ListN.{length, set, length-set, length-append, List·getD-append, List·getD-eq-default}
 use lib.Seq.{getD-set-same, getD-set-other, getD-append-seam}
-use Rattle.paper.specs.Abstract.{Comp, nothing, comp, holder, less, change, split}
+use Rattle.paper.specs.Abstract.{Comp, nothing, comp, serviceComp, serviceComps, holder, less, change, split}
 
 pub comp-none : (C : List Comp) (c : ℕ) → length C ≤ c → comp C c ≡ nothing
 comp-none C c h = List·getD-eq-default C nothing h
@@ -136,3 +136,18 @@ module _ (C : List Comp) (p : ℕ) (child : Comp) where
         (simp (e, and-true))
         (e ∙ sym (ap (λ (k : Comp). k .A x) (comp-none C (length C) (omega arith))))
         (λ c q d. refl)
+
+-- ---- the services' compartments at the start
+
+pub service-comps : (n i k : ℕ) → length (serviceComps n i k) ≡ k
+unfolding serviceComps
+service-comps n i zero = refl
+service-comps n i (suc k) = ap suc (service-comps n (suc i) k)
+
+pub service-comp : (n i k j : ℕ) → comp (serviceComps n i k) j ≡ cond (ltb j k) (serviceComp n (i + j)) nothing
+unfolding serviceComps
+service-comp n i zero j = simp (le-ltb j 0 (omega arith))
+service-comp n i (suc k) zero = simp (lt-ltb 0 (suc k) (omega arith), add-zero)
+service-comp n i (suc k) (suc j) =
+    let e : suc i + j ≡ i + suc j = omega arith in
+    service-comp n (suc i) k j ∙ ap₂ (λ (b : Bool) (m : ℕ). cond b (serviceComp n m) nothing) (sym (leb·suc-suc (suc j) k)) e

@@ -2,10 +2,10 @@
 use mathlib.Core.Path.{_≡_, refl, ap, _∙_, sym}
 use mathlib.Core.Bool.{Bool, true, false, cond}
 use mathlib.Core.List.{List}
-use Prim.Native.Nat.{ℕ, zero, suc, _≤_}
+use Prim.Native.Nat.{ℕ, zero, suc, _+_, _≤_}
 use native.Mathlib.Omega.{arith}
-use native.Mathlib.Nat.{le-trans, le-refl}
-use borrow.Author.Tests.{leb-true, ne-eqb}
+use native.Mathlib.Nat.{le-trans, le-refl, zero-add, suc-add}
+use borrow.Author.Tests.{leb-true, eqb-true, eqb-false, ne-eqb}
 use lib.Dec.{leb, eqb}
 use lib.ListN.{length, length-set}
 use Rattle.common.specs.Answers as answer
@@ -39,6 +39,25 @@ module _ (k : ℕ) (a : State) where
   pub run-stop : (step a .answer ≡ answer.done → ⊥) → run (suc k) a ≡ ended (step a .answer) (step a .state)
   unfolding run
   run-stop h = simp (ne-eqb (step a .answer) answer.done h)
+
+-- j steps, then k more
+pub run-on : (j k : ℕ) (a : State) → run j a .answer ≡ answer.done → run (j + k) a .state ≡ run k (run j a .state) .state
+unfolding run
+run-on zero k a h = ap (λ (n : ℕ). run n a .state) (zero-add k)
+run-on (suc j) k a h = go (eqb (step a .answer) answer.done) refl (run-on j k (step a .state))
+  where
+    go : (b : Bool) → eqb (step a .answer) answer.done ≡ b
+        → (run j (step a .state) .answer ≡ answer.done → run (j + k) (step a .state) .state ≡ run k (run j (step a .state) .state) .state)
+        → run (suc j + k) a .state ≡ run k (run (suc j) a .state) .state
+    go true e ih =
+        let g : step a .answer ≡ 0 = eqb-true _ _ e in
+        let f = run-more j a g in
+        let z : run j (step a .state) .answer ≡ 0 = sym (ap (λ (r : Ran). r .answer) f) ∙ h in
+        ap (λ (n : ℕ). run n a .state) (suc-add j k) ∙ ap (λ (r : Ran). r .state) (run-more (j + k) a g) ∙ ih z
+        ∙ ap (λ (r : Ran). run k (r .state) .state) (sym f)
+    go false e ih =
+        let g : step a .answer ≡ 0 → ⊥ = eqb-false _ _ e in
+        absurd (g (sym (ap (λ (r : Ran). r .answer) (run-stop j a g)) ∙ h))
 
 -- what every step keeps, a run keeps
 pub run-keeps : (Q : State → Type 0) → ((a : State) → Q a → Q (step a .state)) → (n : ℕ) (a : State) → Q a → Q (run n a .state)

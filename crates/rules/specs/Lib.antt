@@ -14,3 +14,5 @@ pub mod Passed
 pub mod Commits
 pub mod Isolate
 pub mod OneStep
+pub mod Runs
+pub mod Start
