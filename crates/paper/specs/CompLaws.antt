@@ -5,13 +5,14 @@ use mathlib.Core.List.{List, [], _∷_, _++_}
 use mathlib.Core.Logic.{_≢_}
 use Prim.Native.Nat.{ℕ, zero, suc, _+_, _≤_, _<_}
 use native.Mathlib.Omega.{arith}
-use native.Mathlib.Nat.{not-suc-le-zero, le-of-suc-le-suc, add-zero}
+use native.Mathlib.Nat.{not-suc-le-zero, le-of-suc-le-suc, add-zero, zero-add}
 use native.Mathlib.Decide.{ℕ-discrete}
 use borrow.Author.Tests.{ltb-true, ltb-false, lt-ltb, le-ltb, eq-eqb, ne-eqb}
 use lib.Dec.{ltb, eqb, leb·suc-suc, eqb·suc-suc, eqb·suc-zero}
 use lib.ListN.{length, set, length-set, length-append, List·getD-append, List·getD-eq-default}
 use lib.Seq.{getD-set-same, getD-set-other, getD-append-seam}
-use Rattle.paper.specs.Abstract.{Comp, nothing, comp, serviceComp, serviceComps, holder, less, change, split}
+use Rattle.common.specs.Services.{serviceCount}
+use Rattle.paper.specs.Abstract.{Comp, nothing, comp, serviceComp, serviceComps, initialComps, holder, less, change, split}
 
 pub comp-none : (C : List Comp) (c : ℕ) → length C ≤ c → comp C c ≡ nothing
 comp-none C c h = List·getD-eq-default C nothing h
@@ -144,10 +145,20 @@ unfolding serviceComps
 service-comps n i zero = refl
 service-comps n i (suc k) = ap suc (service-comps n (suc i) k)
 
-pub service-comp : (n i k j : ℕ) → comp (serviceComps n i k) j ≡ cond (ltb j k) (serviceComp n (i + j)) nothing
+service-comp : (n i k j : ℕ) → comp (serviceComps n i k) j ≡ cond (ltb j k) (serviceComp n (i + j)) nothing
 unfolding serviceComps
 service-comp n i zero j = simp (le-ltb j 0 (omega arith))
 service-comp n i (suc k) zero = simp (lt-ltb 0 (suc k) (omega arith), add-zero)
 service-comp n i (suc k) (suc j) =
     let e : suc i + j ≡ i + suc j = omega arith in
     service-comp n (suc i) k j ∙ ap₂ (λ (b : Bool) (m : ℕ). cond b (serviceComp n m) nothing) (sym (leb·suc-suc (suc j) k)) e
+
+-- what a test says of the j-th service's compartment
+pub at-service : (n j : ℕ) (f : Comp → Bool) → f nothing ≡ false
+    → f (comp (initialComps n) (suc j)) ≡ (ltb j serviceCount && f (serviceComp n j))
+unfolding initialComps
+at-service n j f z = ap f (service-comp n 0 serviceCount j) ∙ simp zero-add (go (ltb j serviceCount))
+  where
+    go : (b : Bool) → f (cond b (serviceComp n j) nothing) ≡ (b && f (serviceComp n j))
+    go true = refl
+    go false = z

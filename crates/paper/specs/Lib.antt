@@ -1,3 +1,4 @@
 pub mod Abstract
 pub mod CompLaws
-pub mod Sound
+pub mod RunLaws
+pub mod Property

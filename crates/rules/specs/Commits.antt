@@ -7,12 +7,12 @@ use native.Mathlib.Omega.{arith}
 use borrow.Author.Tests.{ltb-true, ltb-false, leb-true, eqb-true}
 use lib.Dec.{ltb, leb, eqb}
 use lib.ListN.{getD, length, take, set, length-set}
-use lib.Seq.{getD-take, length-take-le, take-set-lt, take-set-le, set-out}
 use Rattle.common.specs.Answers as answer
-use Rattle.common.specs.Opcodes as is
 use Rattle.common.specs.Words.{Decoded}
-use Rattle.common.specs.Instructions.{reg, regsAfter, wordsAfter}
+use Rattle.common.specs.Instructions.{reg, wordsAfter}
+use Rattle.common.specs.InstructionLaws.{words-take, words-length, regs-take}
 use Rattle.common.specs.Services.{isolate, serviceCount, isService, serviceAt, isServiceNumber}
+use Rattle.common.specs.ServiceLaws.{service-number, service-small}
 use Rattle.common.specs.Tests.{both, clash}
 use Rattle.paper.specs.Abstract as paper
 use Rattle.paper.specs.CompLaws.{changed-test, changed-kept}
@@ -21,42 +21,9 @@ use Rattle.rules.specs.State.{State, firstNumber, inMemory, hasOwner, ow
 use Rattle.rules.specs.Checks.{wordVerdict, addVerdict}
 use Rattle.rules.specs.Step.{ranInstruction, returned, joinAt, jumpAdded, storeAdded}
 use Rattle.rules.specs.Match.{Match, Inv, shadow}
-use Rattle.rules.specs.Verdicts.{service-number, service-small, current-is}
+use Rattle.rules.specs.Verdicts.{current-is}
 use Rattle.rules.specs.TagLaws.{join-one}
 use Rattle.rules.specs.Passed.{load-inside, add-passed}
-
--- ---- words and registers, over the first n words
-
-words-take : (i : Decoded) (n : ℕ) (regs words : List ℕ) → n ≤ length words → wordsAfter i regs (take n words) ≡ take n (wordsAfter i regs words)
-unfolding wordsAfter
-words-take i n regs words h = go (eqb (i .op) is.store) (ltb (reg regs (i .a)) n) refl
-  where
-    go : (b c : Bool) → ltb (reg regs (i .a)) n ≡ c
-        → cond b (set (take n words) (reg regs (i .a)) (reg regs (i .b))) (take n words) ≡ take n (cond b (set words (reg regs (i .a)) (reg regs (i .b))) words)
-    go false c e = refl
-    go true true e = sym (take-set-lt n words (reg regs (i .a)) (reg regs (i .b)) (ltb-true _ _ e))
-    go true false e =
-        let l : length (take n words) ≡ n = length-take-le n words h in
-        let m : n ≤ reg regs (i .a) = ltb-false _ _ e in
-        set-out (take n words) (reg regs (i .a)) (reg regs (i .b)) (omega arith) ∙ sym (take-set-le n words (reg regs (i .a)) (reg regs (i .b)) m)
-
-words-length : (i : Decoded) (regs words : List ℕ) → length (wordsAfter i regs words) ≡ length words
-unfolding wordsAfter
-words-length i regs words = go (eqb (i .op) is.store)
-  where
-    go : (b : Bool) → length (cond b (set words (reg regs (i .a)) (reg regs (i .b))) words) ≡ length words
-    go true = length-set words (reg regs (i .a)) (reg regs (i .b))
-    go false = refl
-
--- a Load reads below n
-regs-take : (i : Decoded) (n pc : ℕ) (regs words : List ℕ) → (eqb (i .op) is.load ≡ true → reg regs (i .a) < n)
-    → regsAfter i pc regs (take n words) ≡ regsAfter i pc regs words
-unfolding regsAfter
-regs-take i n pc regs words h = go (eqb (i .op) is.load) refl
-  where
-    go : (b : Bool) → eqb (i .op) is.load ≡ b → regsAfter i pc regs (take n words) ≡ regsAfter i pc regs words
-    go true e = simp (getD-take n words (reg regs (i .a)) 0 (h e))
-    go false e = simp e
 
 module _ (s : State) (C : List paper.Comp) (m : Match s (shadow s C)) (inv : Inv s) where
   -- ---- an instruction

@@ -10,6 +10,7 @@ use lib.Dec.{ltb, leb, eqb}
 use lib.ListN.{getD, length}
 use Rattle.common.specs.Instructions.{reg}
 use Rattle.common.specs.Services.{isolate, serviceCount, isService, isServiceNumber}
+use Rattle.common.specs.ServiceLaws.{service-range}
 use Rattle.common.specs.AddressSets.{Pair, inSet, within}
 use Rattle.common.specs.AddressSetLaws.{within-at}
 use Rattle.common.specs.Tests.{both, clash}
@@ -21,7 +22,7 @@ use Rattle.rules.specs.State.{State, firstNumber, inMemory, hasOwner, ow
 use Rattle.rules.specs.Checks.{setA, setJ, setS}
 use Rattle.rules.specs.Step.{below, owned, joined, joinedServices, isolated}
 use Rattle.rules.specs.Match.{Match, Inv, shadow}
-use Rattle.rules.specs.Verdicts.{service-range, sets-read}
+use Rattle.rules.specs.Verdicts.{sets-read}
 use Rattle.rules.specs.TagLaws.{length-map, getD-map, insert-if, join-all}
 use Rattle.rules.specs.Passed.{Isolates}
 use Rattle.rules.specs.Commits.{caller-there, owned-inside, service-current, service-low}

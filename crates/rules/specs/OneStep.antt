@@ -12,7 +12,7 @@ use Rattle.common.specs.Answers as answer
 use Rattle.common.specs.Services.{isolate, add-jump-target}
 use Rattle.common.specs.Tests.{both}
 use Rattle.paper.specs.Abstract as paper
-use Rattle.paper.specs.Sound.{abstract-answers, isolated-more}
+use Rattle.paper.specs.RunLaws.{abstract-answers, isolated-more}
 use Rattle.rules.specs.Compartments.{numbers}
 use Rattle.rules.specs.State.{State, inMemory, ownerAt}
 use Rattle.rules.specs.Checks.{instructionAt, wordVerdict, addVerdict, serviceVerdict, verdict}

@@ -11,18 +11,10 @@ use Rattle.common.specs.Words.{Decoded}
 use Rattle.common.specs.Instructions.{reg}
 use Rattle.common.specs.AddressSets.{isEmpty, within}
 use Rattle.common.specs.Tests.{both}
+use Rattle.common.specs.CheckLaws.{took, passed}
 use Rattle.rules.specs.Compartments.{numbers}
 use Rattle.rules.specs.State.{State, inMemory, hasOwner, ownerAt, owns, mayJump, mayStore}
 use Rattle.rules.specs.Checks.{formed, badOwner, arrives, instructionAt, target, storeVerdict, instructionVerdict, wordVerdict, setA, setJ, setS, goodSets, setsWithin, returns, isolateVerdict, addVerdict, serviceVerdict, verdict}
-
--- one check taken off a chain of checks
-pub took : (b : Bool) (x k : ℕ) → cond b x (suc k) ≡ 0 → (b ≡ true) × (x ≡ 0)
-took true x k h = (refl, h)
-took false x k h = absurd (omega arith)
-
-pub passed : (b : Bool) (x k : ℕ) → cond b (suc k) x ≡ 0 → (b ≡ false) × (x ≡ 0)
-passed true x k h = absurd (omega arith)
-passed false x k h = (refl, h)
 
 module _ (s : State) where
   pub record Runs : Type 0 where

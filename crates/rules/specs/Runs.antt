@@ -10,7 +10,7 @@ use lib.Dec.{eqb}
 use lib.ListN.{length}
 use Rattle.common.specs.Answers as answer
 use Rattle.paper.specs.Abstract as paper
-use Rattle.paper.specs.Sound as sound
+use Rattle.paper.specs.RunLaws as laws
 use Rattle.rules.specs.Compartments.{numbers}
 use Rattle.rules.specs.State.{State}
 use Rattle.rules.specs.Step.{step}
@@ -79,8 +79,8 @@ module _ (k : ℕ) (s : State) (a : paper.State) (m : Match s a) (i : Inv s) whe
   unfolding paper.run
   later j h g p =
       let e : run (suc k) s ≡ oneMore (run k s′) = run-more k s h in
-      let f : paper.run (suc j) a ≡ paper.oneMore (paper.run j a′) = sound.run-more j a g in
-      let f2 : paper.run (suc (suc j)) a ≡ paper.oneMore (paper.run (suc j) a′) = sound.run-more (suc j) a g in
+      let f : paper.run (suc j) a ≡ paper.oneMore (paper.run j a′) = laws.run-more j a g in
+      let f2 : paper.run (suc (suc j)) a ≡ paper.oneMore (paper.run (suc j) a′) = laws.run-more (suc j) a g in
       record {
         sooner = let l : j < k = p .sooner in omega arith;
         wants =
@@ -102,7 +102,7 @@ module _ (k : ℕ) (s : State) (a : paper.State) (m : Match s a) (i : Inv s) whe
     where
       least : (c : ℕ) → c ≤ suc j → comps c a ≤ numbers
       least zero l = few s a m i
-      least (suc c) l = subst (λ (r : paper.Ran). length (r .state .comps) ≤ numbers) (sym (sound.run-more c a g)) (p .least c (le-of-suc-le-suc l))
+      least (suc c) l = subst (λ (r : paper.Ran). length (r .state .comps) ≤ numbers) (sym (laws.run-more c a g)) (p .least c (le-of-suc-le-suc l))
 
   -- a parting at this step
   now : Parts s a → Agreed (suc k) s a
@@ -110,9 +110,9 @@ module _ (k : ℕ) (s : State) (a : paper.State) (m : Match s a) (i : Inv s) whe
   now p =
       let z : step s .answer ≡ 13 = p .stops in
       let stop = run-stop k s (λ (q : step s .answer ≡ 0). omega arith) in
-      let g : 65 ≤ comps k a′ = subst (λ (x : ℕ). x ≤ comps k a′) (p .another) (sound.run-grows k a′) in
-      let f : paper.run (suc k) a ≡ paper.oneMore (paper.run k a′) = sound.run-more k a (p .makes) in
-      let f1 : paper.run 1 a ≡ paper.oneMore (paper.run 0 a′) = sound.run-more 0 a (p .makes) in
+      let g : 65 ≤ comps k a′ = subst (λ (x : ℕ). x ≤ comps k a′) (p .another) (laws.run-grows k a′) in
+      let f : paper.run (suc k) a ≡ paper.oneMore (paper.run k a′) = laws.run-more k a (p .makes) in
+      let f1 : paper.run 1 a ≡ paper.oneMore (paper.run 0 a′) = laws.run-more 0 a (p .makes) in
       let u : comps (suc k) a ≡ comps k a′ = simp f in
       inr (
         omega arith,
@@ -137,7 +137,7 @@ module _ (k : ℕ) (s : State) (a : paper.State) (m : Match s a) (i : Inv s) whe
   onward p g rest =
       let h : step s .answer ≡ 0 = p .answers ∙ g in
       let et = run-more k s h in
-      let ea = sound.run-more k a g in
+      let ea = laws.run-more k a g in
       ⊎-elim
       (λ (w : (comps k a′ ≤ numbers) × Together (run k s′) (paper.run k a′)).
       inl (
@@ -158,7 +158,7 @@ module _ (k : ℕ) (s : State) (a : paper.State) (m : Match s a) (i : Inv s) whe
   stopped : Same s a → (paper.step a .answer ≡ answer.done → ⊥) → Agreed (suc k) s a
   stopped p g =
       let et = run-stop k s (λ z. g (sym (p .answers) ∙ z)) in
-      let ea = sound.run-stop k a g in
+      let ea = laws.run-stop k a g in
       inl (
         simp ea (few s′ a′ (p .match) (p .inv)),
         record {
@@ -216,10 +216,10 @@ wanted n j a l w =
     let e : n ≡ j + suc (n - suc j) = omega arith in
     let b : paper.State = paper.run j a .state in
     let f : paper.run n a .state ≡ paper.run (suc (n - suc j)) b .state =
-    ap (λ (k : ℕ). paper.run k a .state) e ∙ sound.run-on j (suc (n - suc j)) a (w .ran) in
+    ap (λ (k : ℕ). paper.run k a .state) e ∙ laws.run-on j (suc (n - suc j)) a (w .ran) in
     let g : paper.run (suc (n - suc j)) b .state ≡ paper.run (n - suc j) (paper.step b .state) .state =
-    ap (λ (r : paper.Ran). r .state) (sound.run-more (n - suc j) b (w .makes)) in
+    ap (λ (r : paper.Ran). r .state) (laws.run-more (n - suc j) b (w .makes)) in
     let u : comps n a ≡ comps (n - suc j) (paper.step b .state) = ap (λ (q : paper.State). length (q .comps)) (f ∙ g) in
-    let v : length (paper.step b .state .comps) ≤ comps (n - suc j) (paper.step b .state) = sound.run-grows (n - suc j) (paper.step b .state) in
+    let v : length (paper.step b .state .comps) ≤ comps (n - suc j) (paper.step b .state) = laws.run-grows (n - suc j) (paper.step b .state) in
     let z : length (paper.step b .state .comps) ≡ 65 = w .another in
     omega arith

@@ -11,17 +11,17 @@ use lib.ListN.{getD, length, take, drop, replicate, length-append, length-drop, 
 use lib.Seq.{take-append-seam}
 use Rattle.common.specs.Answers as answer
 use Rattle.common.specs.Services.{isolate, serviceCount, isService, serviceAt, isServiceNumber}
+use Rattle.common.specs.ServiceLaws.{service-range}
 use Rattle.common.specs.Tests.{both, bool-ext}
+use Rattle.common.specs.CheckLaws.{took}
 use Rattle.paper.specs.Abstract as paper
-use Rattle.paper.specs.CompLaws.{service-comps, service-comp}
+use Rattle.paper.specs.CompLaws.{service-comps, at-service}
 use Rattle.rules.specs.Compartments.{numbers, member, empty, services, main}
 use Rattle.rules.specs.CompartmentLaws.{member-empty, member-services, member-main}
 use Rattle.rules.specs.State.{State, firstNumber, inMemory, hasOwner, ownerAt, jumpersAt, writersAt, owns, mayJump, mayStore}
 use Rattle.rules.specs.Checks.{sameLengths}
 use Rattle.rules.specs.Images.{field, fields, whole, sizeIn, registersIn, entryIn, entryAt, registersAt, entryVerdict, lastListed, registersVerdict, imageVerdict, wordsOf, regsOf, over, loaded, loadVerdict, load}
 use Rattle.rules.specs.Match.{Match, Inv}
-use Rattle.rules.specs.Verdicts.{service-range}
-use Rattle.rules.specs.Passed.{took}
 
 -- ---- what a loader's 0 says
 
@@ -126,16 +126,6 @@ main-there : (x : ℕ) → isService x ≡ true → getD (replicate serviceCount
 main-there x f =
     let r : (isolate ≤ x) × (x < isolate + serviceCount) = service-range x f in
     getD-replicate serviceCount (x - isolate) main empty (omega arith)
-
--- what a test says of the j-th service's compartment
-at-service : (n j : ℕ) (f : paper.Comp → Bool) → f paper.nothing ≡ false
-    → f (paper.comp (paper.initialComps n) (suc j)) ≡ (ltb j serviceCount && f (paper.serviceComp n j))
-unfolding paper.initialComps
-at-service n j f z = ap f (service-comp n 0 serviceCount j) ∙ simp zero-add (go (ltb j serviceCount))
-  where
-    go : (b : Bool) → f (cond b (paper.serviceComp n j) paper.nothing) ≡ (b && f (paper.serviceComp n j))
-    go true = refl
-    go false = z
 
 -- ---- the start
 

@@ -11,6 +11,7 @@ use lib.Seq.{getD-take, length-take-le}
 use Rattle.common.specs.Answers as answer
 use Rattle.common.specs.Words.{Decoded, decode}
 use Rattle.common.specs.Services.{isolate, serviceCount, isService, serviceAt, isServiceNumber}
+use Rattle.common.specs.ServiceLaws.{service-range, service-small}
 use Rattle.common.specs.AddressSets.{isEmpty}
 use Rattle.common.specs.AddressSetLaws.{good-take, good-set-take}
 use Rattle.common.specs.Tests.{both}
@@ -20,22 +21,6 @@ use Rattle.rules.specs.Compartments.{numbers}
 use Rattle.rules.specs.State.{State, firstNumber, inMemory, hasOwner, ownerAt, owns, mayJump, mayStore}
 use Rattle.rules.specs.Checks.{sameLengths, sized, numbered, seated, formed, badOwner, arrives, instructionAt, storeVerdict, instructionVerdict, wordVerdict, setA, setJ, setS, goodSets, setsWithin, returns, isolateVerdict, addVerdict, serviceVerdict, verdict}
 use Rattle.rules.specs.Match.{Match, Inv, shadow}
-
--- ---- services
-
-pub service-range : (x : ℕ) → isService x ≡ true → (isolate ≤ x) × (x < isolate + serviceCount)
-unfolding isService
-service-range x h = let t = both (leb isolate x) (ltb x (isolate + serviceCount)) h in (leb-true _ _ (t .0), ltb-true _ _ (t .1))
-
-pub service-number : (x : ℕ) → isService x ≡ true → isServiceNumber (serviceAt x) ≡ true
-unfolding serviceAt isServiceNumber
-service-number x h =
-    let r : (isolate ≤ x) × (x < isolate + serviceCount) = service-range x h in
-    simp (le-leb 1 (x - 4095) (omega arith), le-leb (x - 4095) serviceCount (omega arith))
-
-pub service-small : (x : ℕ) → isService x ≡ true → serviceAt x ≤ serviceCount
-unfolding isServiceNumber
-service-small x h = leb-true _ _ (both (leb 1 (serviceAt x)) (leb (serviceAt x) serviceCount) (service-number x h) .1)
 
 -- ---- what Inv keeps answers neither 14 nor 15
 

@@ -1,4 +1,4 @@
--- What holds of the abstract machine by itself: no answer above 12, and compartments are never fewer.
+-- What holds of every run of the abstract machine: no answer above 12, and compartments are never fewer.
 use mathlib.Core.Path.{_≡_, refl, ap, _∙_, sym}
 use mathlib.Core.Bool.{Bool, true, false, cond}
 use mathlib.Core.List.{List}
