@@ -16,3 +16,5 @@ pub mod Isolate
 pub mod OneStep
 pub mod Runs
 pub mod Start
+pub mod Changes
+pub mod Agreement
