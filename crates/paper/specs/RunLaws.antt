@@ -1,4 +1,4 @@
--- What holds of every run of the abstract machine: no answer above 12, and compartments are never fewer.
+-- What holds of every run of the abstract machine: no answer above 12, compartments never fewer, memory as large as it was.
 use mathlib.Core.Path.{_≡_, refl, ap, _∙_, sym}
 use mathlib.Core.Bool.{Bool, true, false, cond}
 use mathlib.Core.List.{List}
@@ -10,6 +10,7 @@ use lib.Dec.{leb, eqb}
 use lib.ListN.{length, length-set}
 use Rattle.common.specs.Answers as answer
 use Rattle.common.specs.Instructions.{reg}
+use Rattle.common.specs.InstructionLaws.{words-length}
 use Rattle.common.specs.Services.{isolate, add-jump-target}
 use Rattle.common.specs.AddressSets.{inSet}
 use Rattle.paper.specs.Abstract.{Comp, State, comp, inMemory, instructionAt, storeVerdict, instructionVerdict, wordVerdict, ranInstruction, isolateVerdict, addVerdict, serviceVerdict, moreJ, moreS, setA, setJ, setS, isolated, jumpAdded, storeAdded, ranService, verdict, commit, Stepped, step, Ran, oneMore, ended, run}
@@ -103,3 +104,20 @@ step-grows a = go (eqb (verdict a) answer.done) (inMemory a (a .pc)) (eqb (a .pc
 
 pub run-grows : (n : ℕ) (a : State) → length (a .comps) ≤ length (run n a .state .comps)
 run-grows n a = run-keeps (λ b. length (a .comps) ≤ length (b .comps)) (λ b h. le-trans h (step-grows b)) n a (le-refl (length (a .comps)))
+
+-- ---- memory stays as large as it was
+
+pub step-words : (a : State) → length (step a .state .words) ≡ length (a .words)
+unfolding step commit ranService ranInstruction isolated jumpAdded storeAdded
+step-words a = go (eqb (verdict a) answer.done) (inMemory a (a .pc)) (eqb (a .pc) isolate) (eqb (a .pc) add-jump-target)
+  where
+    go : (b c d e : Bool)
+        → length (cond b (cond c (ranInstruction a (instructionAt a)) (cond d (isolated a) (cond e (jumpAdded a) (storeAdded a)))) a .words) ≡ length (a .words)
+    go false c d e = refl
+    go true true d e = words-length (instructionAt a) (a .regs) (a .words)
+    go true false true e = refl
+    go true false false true = refl
+    go true false false false = refl
+
+pub run-words : (n : ℕ) (a : State) → length (run n a .state .words) ≡ length (a .words)
+run-words n a = run-keeps (λ b. length (b .words) ≡ length (a .words)) (λ b h. step-words b ∙ h) n a refl

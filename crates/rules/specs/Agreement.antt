@@ -1,5 +1,6 @@
 -- The tagged machine against the abstract one, from the bytes of any accepted image and for any number of steps.
 use mathlib.Core.Path.{_≡_, sym, ap, _∙_, subst}
+use mathlib.Core.Bool.{true, or-true}
 use mathlib.Core.List.{List}
 use mathlib.Core.Logic.{_↔_, _⊎_, ⊎-elim}
 use Prim.Native.Nat.{ℕ, suc, _≤_, _<_}
@@ -8,8 +9,9 @@ use borrow.Author.Tests.{ne-eqb, lt-ltb}
 use lib.Dec.{ltb, eqb}
 use lib.ListN.{getD, length}
 use Rattle.common.specs.Answers as answer
+use Rattle.common.specs.Services.{isService}
 use Rattle.paper.specs.Abstract as paper
-use Rattle.paper.specs.RunLaws.{run-answers}
+use Rattle.paper.specs.RunLaws.{run-answers, run-words}
 use Rattle.paper.specs.Property.{InOne, Sound, run-sound, Leaves, leaves}
 use Rattle.rules.specs.Compartments.{numbers}
 use Rattle.rules.specs.State.{State}
@@ -18,7 +20,7 @@ use Rattle.rules.specs.Step.{step}
 use Rattle.rules.specs.Run.{Ran, run}
 use Rattle.rules.specs.Images.{sizeIn, entryIn, wordsOf, regsOf, loaded, load}
 use Rattle.rules.specs.Match.{Match, Inv}
-use Rattle.rules.specs.Start.{Accepted, accepted, loads, start-match, start-inv}
+use Rattle.rules.specs.Start.{Accepted, words-are, accepted, loads, start-match, start-inv}
 use Rattle.rules.specs.Runs.{comps, Together, Wants65, Parted, Agreed, agreed, Step13, step-13, wanted}
 use Rattle.rules.specs.Changes.{Changes, Stored, changed}
 
@@ -43,6 +45,10 @@ module _ (bytes : List ℕ) (old : State) (ok : load bytes old .answer ≡ answe
   -- what a 0 of the loader says of the image and of the lent memories
   pub image-accepted : Accepted (wordsOf bytes) (entryIn bytes) old
   image-accepted = accepted bytes old ok
+
+  -- N is what the image says
+  pub image-size : length (wordsOf bytes) ≡ sizeIn bytes
+  image-size = words-are bytes
 
   -- the loader's state is the one that the abstract start stands for
   pub start-matches : Match (load bytes old .state) (start bytes)
@@ -131,9 +137,12 @@ module _ (bytes : List ℕ) (old : State) (ok : load bytes old .answer ≡ answe
     sound = run-sound (wordsOf bytes) (regsOf bytes) (entryIn bytes) (image-accepted .most) n
 
     -- each address in memory, and each service, lies in one compartment and in no other
-    pub one-compartment : (x : ℕ) → x < length (abstract n bytes .state .words) → InOne (abstract n bytes .state .comps) x
-    unfolding paper.inMemory
-    one-compartment x h = sound .one x (simp (lt-ltb x (length (abstract n bytes .state .words)) h))
+    pub one-compartment : (x : ℕ) → (x < sizeIn bytes) ⊎ (isService x ≡ true) → InOne (abstract n bytes .state .comps) x
+    unfolding paper.inMemory paper.initial
+    one-compartment x h =
+        let l : length (abstract n bytes .state .words) ≡ sizeIn bytes = run-words n (start bytes) ∙ words-are bytes in
+        sound .one x
+        (⊎-elim (λ (e : x < sizeIn bytes). simp (l, lt-ltb x (sizeIn bytes) e)) (λ (e : isService x ≡ true). simp (e, or-true)) h)
 
     -- a step that runs leaves pc in its compartment or at one of its jump targets, or the next step stops with 2 or 4
     pub leaving : paper.step (abstract n bytes .state) .answer ≡ answer.done → Leaves (abstract n bytes .state)

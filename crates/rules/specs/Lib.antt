@@ -18,3 +18,4 @@ pub mod Runs
 pub mod Start
 pub mod Changes
 pub mod Agreement
+pub mod Samples

@@ -39,6 +39,9 @@ unfolding fields
 fields-length bytes zero p = refl
 fields-length bytes (suc k) p = ap suc (fields-length bytes k (p + 4))
 
+pub words-are : (bytes : List ℕ) → length (wordsOf bytes) ≡ sizeIn bytes
+words-are bytes = fields-length bytes (sizeIn bytes) 4
+
 module _ (bytes : List ℕ) (old : State) (ok : load bytes old .answer ≡ answer.done) where
   pub accepted : Accepted (wordsOf bytes) (entryIn bytes) old
   unfolding load loadVerdict imageVerdict registersVerdict entryVerdict sameLengths
@@ -56,7 +59,7 @@ module _ (bytes : List ℕ) (old : State) (ok : load bytes old .answer ≡ answe
       let k = took (eqb (field bytes (entryAt bytes)) 1) _ 23 (j .1) in
       let l = took (whole bytes (entryAt bytes) 2) _ 19 (k .1) in
       let m = took (ltb (entryIn bytes) (sizeIn bytes)) _ 24 (l .1) in
-      let n : length (wordsOf bytes) ≡ sizeIn bytes = fields-length bytes (sizeIn bytes) 4 in
+      let n : length (wordsOf bytes) ≡ sizeIn bytes = words-are bytes in
       let sizes = both _ _ (c .0) in
       let lengths = both _ _ (a .0) in
       let two = both _ _ (lengths .0) in
