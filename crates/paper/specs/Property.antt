@@ -52,7 +52,7 @@ unfolding verdict arrives
 runs a h =
     let t = took (defined a (a .pc)) _ 1 h in
     let u = took (arrives a) _ 3 (t .1) in
-    let v = both (ltb (current a) (length (a .comps))) (eqb (current a) (a .prev) || (a .jumped && J-of a (a .prev) (a .pc))) (u .0) in
+    let v = both (ltb (current a) (length (a .comps))) _ (u .0) in
     record { there = ltb-true _ _ (v .0); service = λ e. simp e at (t .0); rest = u .1 }
 
 -- the caller is left with r15, and isolate takes addresses of the caller's
