@@ -181,8 +181,12 @@ change C c f = set C c (f (comp C c))
 abbrev pub split : List Comp → ℕ → Comp → List Comp
 split C p child = change C p (λ k. less k (child .A)) ++ (child ∷ [])
 
+-- (A', J', S')
+abbrev pub described : State → Comp
+described a = record { A = inSet (setA a); J = inSet (setJ a); S = inSet (setS a) }
+
 unfoldable pub isolated : State → State
-isolated a = returned a (split (a .comps) (a .prev) (record { A = inSet (setA a); J = inSet (setJ a); S = inSet (setS a) }))
+isolated a = returned a (split (a .comps) (a .prev) (described a))
 
 unfoldable pub jumpAdded : State → State
 jumpAdded a = returned a (change (a .comps) (a .prev) (λ k. moreJ k (reg (a .regs) 1)))

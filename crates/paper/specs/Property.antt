@@ -18,7 +18,7 @@ use Rattle.common.specs.AddressSets.{isEmpty, inSet, within}
 use Rattle.common.specs.AddressSetLaws.{within-at}
 use Rattle.common.specs.CheckLaws.{took, passed}
 use Rattle.common.specs.Tests.{both, clash, bool-ext}
-use Rattle.paper.specs.Abstract.{Comp, State, comp, A-of, J-of, S-of, inMemory, serviceComps, initialComps, initial, current, holder, arrives, instructionAt, wordVerdict, ranInstruction, setA, setJ, setS, goodSets, setsWithin, returns, isolateVerdict, addVerdict, serviceVerdict, returned, less, moreJ, moreS, change, split, isolated, jumpAdded, storeAdded, ranService, verdict, commit, step, run}
+use Rattle.paper.specs.Abstract.{Comp, State, comp, A-of, J-of, S-of, inMemory, serviceComps, initialComps, initial, current, holder, arrives, instructionAt, wordVerdict, ranInstruction, setA, setJ, setS, goodSets, setsWithin, returns, isolateVerdict, addVerdict, serviceVerdict, returned, less, moreJ, moreS, change, split, described, isolated, jumpAdded, storeAdded, ranService, verdict, commit, step, run}
 use Rattle.paper.specs.CompLaws.{comp-none, comp-there, holder-holds, changed-other, changed-kept, split-length, split-other, split-gone, split-stays, service-comps, at-service}
 use Rattle.paper.specs.RunLaws.{run-keeps, isolated-more}
 
@@ -172,7 +172,7 @@ module _ (a : State) (ok : Sound a) (r : Runs a) where
         go true c f g =
             let w = isolate-passed a (a .prev) (simp f at v) in
             simp f
-            (isolate-sound (record { A = inSet (setA a); J = inSet (setJ a); S = inSet (setS a) })
+            (isolate-sound (described a)
             (λ x e. within-at (setA a) (A-of a (a .prev)) x (w .0) e) (w .1))
         go false true f g = simp (f, g) (add-sound (moreJ (comp C (a .prev)) (reg (a .regs) 1)) refl (add-passed a (a .prev) (simp f at v)))
         go false false f g = simp (f, g) (add-sound (moreS (comp C (a .prev)) (reg (a .regs) 1)) refl (add-passed a (a .prev) (simp f at v)))
@@ -319,7 +319,7 @@ module _ (a : State) (ok : Sound a) (r : Runs a) where
       go true c d e = refl
       go false true d e =
           let l : current a < length (a .comps) = r .there in
-          split-other (a .comps) (a .prev) (record { A = inSet (setA a); J = inSet (setJ a); S = inSet (setS a) }) (ok .prev) (current a) (other a ok r e) (λ q. omega arith)
+          split-other (a .comps) (a .prev) (described a) (ok .prev) (current a) (other a ok r e) (λ q. omega arith)
       go false false true e = changed-other (a .comps) (a .prev) (moreJ (comp (a .comps) (a .prev)) (reg (a .regs) 1)) (ok .prev) (current a) (other a ok r e)
       go false false false e = changed-other (a .comps) (a .prev) (moreS (comp (a .comps) (a .prev)) (reg (a .regs) 1)) (ok .prev) (current a) (other a ok r e)
 

@@ -13,7 +13,7 @@ use Rattle.common.specs.Instructions.{reg}
 use Rattle.common.specs.InstructionLaws.{words-length}
 use Rattle.common.specs.Services.{isolate, add-jump-target}
 use Rattle.common.specs.AddressSets.{inSet}
-use Rattle.paper.specs.Abstract.{Comp, State, comp, inMemory, instructionAt, storeVerdict, instructionVerdict, wordVerdict, ranInstruction, isolateVerdict, addVerdict, serviceVerdict, moreJ, moreS, setA, setJ, setS, isolated, jumpAdded, storeAdded, ranService, verdict, commit, Stepped, step, Ran, oneMore, ended, run}
+use Rattle.paper.specs.Abstract.{Comp, State, comp, inMemory, instructionAt, storeVerdict, instructionVerdict, wordVerdict, ranInstruction, isolateVerdict, addVerdict, serviceVerdict, described, isolated, jumpAdded, storeAdded, ranService, verdict, commit, Stepped, step, Ran, oneMore, ended, run}
 use Rattle.paper.specs.CompLaws.{split-length}
 
 -- ---- answers
@@ -84,7 +84,7 @@ run-answers (suc n) a = go (eqb (verdict a) answer.done) (abstract-answers a) (r
 
 pub isolated-more : (a : State) → length (isolated a .comps) ≡ suc (length (a .comps))
 unfolding isolated
-isolated-more a = split-length (a .comps) (a .prev) (record { A = inSet (setA a); J = inSet (setJ a); S = inSet (setS a) })
+isolated-more a = split-length (a .comps) (a .prev) (described a)
 
 pub step-grows : (a : State) → length (a .comps) ≤ length (step a .state .comps)
 unfolding step commit ranService ranInstruction jumpAdded storeAdded
@@ -96,10 +96,10 @@ step-grows a = go (eqb (verdict a) answer.done) (inMemory a (a .pc)) (eqb (a .pc
     go true true d e = le-refl (length (a .comps))
     go true false true e = let h : length (isolated a .comps) ≡ suc (length (a .comps)) = isolated-more a in omega arith
     go true false false true =
-        let h : length (jumpAdded a .comps) ≡ length (a .comps) = length-set (a .comps) (a .prev) (moreJ (comp (a .comps) (a .prev)) (reg (a .regs) 1)) in
+        let h : length (jumpAdded a .comps) ≡ length (a .comps) = length-set (a .comps) (a .prev) _ in
         omega arith
     go true false false false =
-        let h : length (storeAdded a .comps) ≡ length (a .comps) = length-set (a .comps) (a .prev) (moreS (comp (a .comps) (a .prev)) (reg (a .regs) 1)) in
+        let h : length (storeAdded a .comps) ≡ length (a .comps) = length-set (a .comps) (a .prev) _ in
         omega arith
 
 pub run-grows : (n : ℕ) (a : State) → length (a .comps) ≤ length (run n a .state .comps)
