@@ -1,7 +1,7 @@
 -- Laws of lists of compartments: where one is changed, where one is split in two, and which one holds an address.
 use mathlib.Core.Path.{_≡_, refl, sym, ap, ap₂, _∙_, subst}
-use mathlib.Core.Bool.{Bool, true, false, cond, _&&_, _||_, not, or-false, and-false, and-true}
-use mathlib.Core.List.{List, [], _∷_, _++_}
+use mathlib.Core.Bool.{Bool, true, false, cond, _&&_, _||_, or-false, and-false, and-true}
+use mathlib.Core.List.{List, [], _∷_}
 use mathlib.Core.Logic.{_≢_}
 use Prim.Native.Nat.{ℕ, zero, suc, _+_, _≤_, _<_}
 use native.Mathlib.Omega.{arith}
@@ -16,17 +16,6 @@ use Rattle.paper.specs.Abstract.{Comp, nothing, comp, serviceComp, servi
 
 pub comp-none : (C : List Comp) (c : ℕ) → length C ≤ c → comp C c ≡ nothing
 comp-none C c h = List·getD-eq-default C nothing h
-
--- a compartment with an address is there
-pub comp-there : (C : List Comp) (c x : ℕ) → comp C c .A x ≡ true → c < length C
-comp-there C c x h = go (ltb c (length C)) refl
-  where
-    go : (b : Bool) → ltb c (length C) ≡ b → c < length C
-    go true e = ltb-true _ _ e
-    go false e =
-        let z : comp C c .A x ≡ false = ap (λ (k : Comp). k .A x) (comp-none C c (ltb-false _ _ e)) in
-        let w : _≡_ {A = ℕ} 0 1 = cc in
-        absurd (omega arith)
 
 -- ---- the compartment that holds an address
 

@@ -1,7 +1,6 @@
 -- What holds of every run of the abstract machine: no answer above 12, compartments never fewer, memory as large as it was.
 use mathlib.Core.Path.{_≡_, refl, ap, _∙_, sym}
 use mathlib.Core.Bool.{Bool, true, false, cond}
-use mathlib.Core.List.{List}
 use Prim.Native.Nat.{ℕ, zero, suc, _+_, _≤_}
 use native.Mathlib.Omega.{arith}
 use native.Mathlib.Nat.{le-trans, le-refl, zero-add, suc-add}
@@ -9,11 +8,9 @@ use borrow.Author.Tests.{leb-true, eqb-true, eqb-false, ne-eqb}
 use lib.Dec.{leb, eqb}
 use lib.ListN.{length, length-set}
 use Rattle.common.specs.Answers as answer
-use Rattle.common.specs.Instructions.{reg}
 use Rattle.common.specs.InstructionLaws.{words-length}
 use Rattle.common.specs.Services.{isolate, add-jump-target}
-use Rattle.common.specs.AddressSets.{inSet}
-use Rattle.paper.specs.Abstract.{Comp, State, comp, inMemory, instructionAt, storeVerdict, instructionVerdict, wordVerdict, ranInstruction, isolateVerdict, addVerdict, serviceVerdict, described, isolated, jumpAdded, storeAdded, ranService, verdict, commit, Stepped, step, Ran, oneMore, ended, run}
+use Rattle.paper.specs.Abstract.{State, inMemory, instructionAt, storeVerdict, instructionVerdict, wordVerdict, ranInstruction, isolateVerdict, addVerdict, serviceVerdict, described, isolated, jumpAdded, storeAdded, ranService, verdict, commit, step, Ran, oneMore, ended, run}
 use Rattle.paper.specs.CompLaws.{split-length}
 
 -- ---- answers

@@ -1,24 +1,24 @@
 -- The tagged machine against the abstract one, from the bytes of any accepted image and for any number of steps.
 use mathlib.Core.Path.{_≡_, sym, ap, _∙_, subst}
-use mathlib.Core.Bool.{true, or-true}
+use mathlib.Core.Bool.{true, _||_, or-true}
 use mathlib.Core.List.{List}
 use mathlib.Core.Logic.{_↔_, _⊎_, ⊎-elim}
 use Prim.Native.Nat.{ℕ, suc, _≤_, _<_}
 use native.Mathlib.Omega.{arith}
-use borrow.Author.Tests.{ne-eqb, lt-ltb}
-use lib.Dec.{ltb, eqb}
-use lib.ListN.{getD, length}
+use borrow.Author.Tests.{lt-ltb}
+use lib.ListN.{length}
 use Rattle.common.specs.Answers as answer
 use Rattle.common.specs.Services.{isService}
 use Rattle.paper.specs.Abstract as paper
 use Rattle.paper.specs.RunLaws.{run-answers, run-words}
-use Rattle.paper.specs.Property.{InOne, Sound, run-sound, Leaves, leaves}
+use Rattle.paper.specs.Sound.{InOne, Sound, run-sound}
+use Rattle.paper.specs.Property as property
 use Rattle.rules.specs.Compartments.{numbers}
 use Rattle.rules.specs.State.{State}
 use Rattle.rules.specs.Checks.{verdict}
 use Rattle.rules.specs.Step.{step}
 use Rattle.rules.specs.Run.{Ran, run}
-use Rattle.rules.specs.Images.{sizeIn, entryIn, wordsOf, regsOf, loaded, load}
+use Rattle.rules.specs.Images.{sizeIn, entryIn, wordsOf, regsOf, load}
 use Rattle.rules.specs.Match.{Match, Inv}
 use Rattle.rules.specs.Start.{Accepted, words-are, accepted, loads, start-match, start-inv}
 use Rattle.rules.specs.Runs.{comps, Together, Wants65, Parted, Agreed, agreed, Step13, step-13, wanted}
@@ -145,5 +145,10 @@ module _ (bytes : List ℕ) (old : State) (ok : load bytes old .answer ≡ answe
         (⊎-elim (λ (e : x < sizeIn bytes). simp (l, lt-ltb x (sizeIn bytes) e)) (λ (e : isService x ≡ true). simp (e, or-true)) h)
 
     -- a step that runs leaves pc in its compartment or at one of its jump targets, or the next step stops with 2 or 4
-    pub leaving : paper.step (abstract n bytes .state) .answer ≡ answer.done → Leaves (abstract n bytes .state)
-    leaving h = leaves (abstract n bytes .state) sound h
+    pub leaving : paper.step (abstract n bytes .state) .answer ≡ answer.done → property.Leaves (abstract n bytes .state)
+    leaving h = property.leaves (abstract n bytes .state) sound h
+
+    -- (b) of the abstract machine by itself, also where the tagged one has stopped
+    pub changing : (x : ℕ) → property.Changes (abstract n bytes .state) x
+        → (paper.A-of (abstract n bytes .state) (paper.current (abstract n bytes .state)) x || paper.S-of (abstract n bytes .state) (paper.current (abstract n bytes .state)) x) ≡ true
+    changing x d = property.changes (abstract n bytes .state) x d

@@ -1,11 +1,11 @@
 -- A word that a step changes: who stored, and that the abstract sets before the step allow it.
 use mathlib.Core.Path.{_≡_, refl, sym, _∙_, subst}
-use mathlib.Core.Bool.{Bool, true, false, cond, _&&_, _||_}
+use mathlib.Core.Bool.{Bool, true, false, _||_}
 use mathlib.Core.List.{List}
 use Prim.Native.Nat.{ℕ, _<_}
 use native.Mathlib.Decide.{ℕ-discrete}
 use borrow.Author.Tests.{ltb-true, eqb-true, eq-eqb}
-use lib.Dec.{ltb, eqb}
+use lib.Dec.{eqb}
 use lib.ListN.{getD}
 use lib.Seq.{getD-set-other}
 use Rattle.common.specs.Answers as answer

@@ -5,10 +5,9 @@ use mathlib.Core.List.{List}
 use mathlib.Core.Logic.{_≢_}
 use Prim.Native.Nat.{ℕ, suc, _+_, _-_, _≤_, _<_}
 use native.Mathlib.Omega.{arith}
-use borrow.Author.Tests.{ltb-true, eqb-true, le-leb, lt-leb, lt-ltb, eq-eqb, ne-eqb}
-use lib.Dec.{ltb, leb, eqb}
+use borrow.Author.Tests.{ltb-true, eqb-true, le-leb, lt-leb, lt-ltb, ne-eqb}
+use lib.Dec.{ltb, eqb}
 use lib.ListN.{getD, length}
-use Rattle.common.specs.Instructions.{reg}
 use Rattle.common.specs.Services.{isolate, serviceCount, isService, isServiceNumber}
 use Rattle.common.specs.ServiceLaws.{service-range}
 use Rattle.common.specs.AddressSets.{Pair, inSet, within}

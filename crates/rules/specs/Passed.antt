@@ -1,9 +1,8 @@
 -- What an answer of 0 says of the state before the step.
-use mathlib.Core.Path.{_≡_, refl}
-use mathlib.Core.Bool.{Bool, true, false, cond, _&&_, _||_}
-use Prim.Native.Nat.{ℕ, suc}
-use native.Mathlib.Omega.{arith}
-use borrow.Author.Tests.{eqb-true, eqb-false, ne-eqb}
+use mathlib.Core.Path.{_≡_}
+use mathlib.Core.Bool.{true, cond, _||_}
+use Prim.Native.Nat.{ℕ}
+use borrow.Author.Tests.{eqb-true, eqb-false}
 use lib.Dec.{eqb}
 use Rattle.common.specs.Answers as answer
 use Rattle.common.specs.Opcodes as is

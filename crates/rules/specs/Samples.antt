@@ -1,6 +1,6 @@
 -- The sheet's two images and 60 isolates on both machines, by computation.
 use mathlib.Core.Path.{_≡_, refl}
-use mathlib.Core.Bool.{true, false}
+use mathlib.Core.Bool.{true}
 use mathlib.Core.List.{List, [], _∷_}
 use Prim.Native.Nat.{ℕ}
 use lib.ListN.{replicate, length}
@@ -10,7 +10,7 @@ use Rattle.common.specs.Instructions.{arithmetic, offset, displaced, branch, pc
 use Rattle.common.specs.Services.{isolate, serviceCount, isService, serviceAt, isServiceNumber}
 use Rattle.common.specs.AddressSets.{pairsAt, setAt, inside, ordered, goodSet, isEmpty, inSet, allFrom, within}
 use Rattle.paper.specs.Abstract as paper
-use Rattle.rules.specs.Compartments.{numbers, member, insert, services, main}
+use Rattle.rules.specs.Compartments.{member, insert, services, main}
 use Rattle.rules.specs.State.{State, firstNumber, inMemory, hasOwner, ownerAt, jumpersAt, writersAt, owns, mayJump, mayStore}
 use Rattle.rules.specs.Checks as checks
 use Rattle.rules.specs.Step as step

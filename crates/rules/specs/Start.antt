@@ -1,13 +1,12 @@
 -- What an accepted image leaves: the loader's state matches the abstract machine's start.
-use mathlib.Core.Path.{_≡_, refl, sym, ap, ap₂, _∙_, subst}
-use mathlib.Core.Bool.{Bool, true, false, cond, _&&_, _||_, and-false, and-true}
-use mathlib.Core.List.{List, [], _∷_, _++_}
+use mathlib.Core.Path.{_≡_, refl, sym, ap, _∙_}
+use mathlib.Core.Bool.{Bool, true, false, _&&_, and-false, and-true}
+use mathlib.Core.List.{List}
 use Prim.Native.Nat.{ℕ, zero, suc, _+_, _-_, _≤_, _<_}
 use native.Mathlib.Omega.{arith}
-use native.Mathlib.Nat.{add-zero, zero-add}
-use borrow.Author.Tests.{ltb-true, ltb-false, leb-true, eqb-true, le-leb, lt-ltb, le-ltb, eq-eqb, ne-eqb}
-use lib.Dec.{ltb, leb, eqb, leb·suc-suc}
-use lib.ListN.{getD, length, take, drop, replicate, length-append, length-drop, length-replicate, getD-replicate, List·getD-append}
+use borrow.Author.Tests.{ltb-true, leb-true, eqb-true, le-leb, lt-ltb, le-ltb, eq-eqb, ne-eqb}
+use lib.Dec.{ltb, leb, eqb}
+use lib.ListN.{getD, length, drop, replicate, length-append, length-drop, length-replicate, getD-replicate, List·getD-append}
 use lib.Seq.{take-append-seam}
 use Rattle.common.specs.Answers as answer
 use Rattle.common.specs.Services.{isolate, serviceCount, isService, serviceAt, isServiceNumber}
@@ -16,7 +15,7 @@ use Rattle.common.specs.Tests.{both, bool-ext}
 use Rattle.common.specs.CheckLaws.{took}
 use Rattle.paper.specs.Abstract as paper
 use Rattle.paper.specs.CompLaws.{service-comps, at-service}
-use Rattle.rules.specs.Compartments.{numbers, member, empty, services, main}
+use Rattle.rules.specs.Compartments.{member, empty, services, main}
 use Rattle.rules.specs.CompartmentLaws.{member-empty, member-services, member-main}
 use Rattle.rules.specs.State.{State, firstNumber, inMemory, hasOwner, ownerAt, jumpersAt, writersAt, owns, mayJump, mayStore}
 use Rattle.rules.specs.Checks.{sameLengths}

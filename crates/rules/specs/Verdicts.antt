@@ -1,11 +1,11 @@
 -- The answers of two states that match: the same, but for a 13 where the abstract machine makes a 65th compartment.
 use mathlib.Core.Path.{_≡_, refl, sym, ap, _∙_, subst, fun-ext}
-use mathlib.Core.Bool.{Bool, true, false, cond, _&&_, _||_, and-false}
+use mathlib.Core.Bool.{Bool, true, false, cond, _&&_, and-false}
 use mathlib.Core.List.{List}
-use Prim.Native.Nat.{ℕ, suc, _+_, _-_, _≤_, _<_}
+use Prim.Native.Nat.{ℕ, suc, _+_, _≤_, _<_}
 use native.Mathlib.Omega.{arith}
-use borrow.Author.Tests.{ltb-true, leb-true, eqb-true, le-leb, lt-leb, lt-ltb, le-ltb, eq-eqb, ne-eqb}
-use lib.Dec.{ltb, leb, eqb}
+use borrow.Author.Tests.{ltb-true, le-leb, lt-leb, lt-ltb, le-ltb, eq-eqb, ne-eqb}
+use lib.Dec.{ltb, eqb}
 use lib.ListN.{getD, length, take}
 use lib.Seq.{getD-take, length-take-le}
 use Rattle.common.specs.Answers as answer
@@ -18,7 +18,7 @@ use Rattle.common.specs.Tests.{both}
 use Rattle.paper.specs.Abstract as paper
 use Rattle.paper.specs.CompLaws.{holder-is}
 use Rattle.rules.specs.Compartments.{numbers}
-use Rattle.rules.specs.State.{State, firstNumber, inMemory, hasOwner, ownerAt, owns, mayJump, mayStore}
+use Rattle.rules.specs.State.{State, firstNumber, inMemory, hasOwner, ownerAt, owns}
 use Rattle.rules.specs.Checks.{sameLengths, sized, numbered, seated, formed, badOwner, arrives, instructionAt, storeVerdict, instructionVerdict, wordVerdict, setA, setJ, setS, goodSets, setsWithin, returns, isolateVerdict, addVerdict, serviceVerdict, verdict}
 use Rattle.rules.specs.Match.{Match, Inv, shadow}
 
