@@ -21,7 +21,7 @@ use Rattle.rules.specs.Run.{Ran, run}
 use Rattle.rules.specs.Images.{sizeIn, entryIn, wordsOf, regsOf, load}
 use Rattle.rules.specs.Match.{Match, Inv}
 use Rattle.rules.specs.Start.{Accepted, words-are, accepted, loads, start-match, start-inv}
-use Rattle.rules.specs.Runs.{comps, Together, Wants65, Parted, Agreed, agreed, Step13, step-13, wanted}
+use Rattle.rules.specs.Runs.{comps, Together, Wants65, Parted, Few, Many, Agreed, agreed, Step13, step-13, wanted}
 use Rattle.rules.specs.Changes.{Changes, Stored, changed}
 
 -- n steps of the tagged machine from what the loader left over the lent memories of `old`, whatever they held
@@ -66,17 +66,17 @@ module _ (bytes : List ℕ) (old : State) (ok : load bytes old .answer ≡ answe
     -- as long as there are no more than 64 compartments: answers, counts, words, registers, position and all sets
     pub agreement : compartments n bytes ≤ numbers → Together (tagged n bytes old) (abstract n bytes)
     agreement h =
-        ⊎-elim (λ (p : (compartments n bytes ≤ numbers) × Together (tagged n bytes old) (abstract n bytes)). p .1)
-        (λ (p : (numbers < compartments n bytes) × ((j : ℕ) × Parted n j (load bytes old .state) (start bytes))).
+        ⊎-elim (λ (p : Few n (load bytes old .state) (start bytes)). p .1)
+        (λ (p : Many n (load bytes old .state) (start bytes)).
         let k : numbers < compartments n bytes = p .0 in absurd (omega arith)) either
 
     -- and where there are more: the tagged machine stopped with 13 when the abstract one made the 65th, and stands
     -- where the abstract one stood then
     pub parting : numbers < compartments n bytes → (j : ℕ) × Parted n j (load bytes old .state) (start bytes)
     parting h =
-        ⊎-elim (λ (p : (compartments n bytes ≤ numbers) × Together (tagged n bytes old) (abstract n bytes)).
+        ⊎-elim (λ (p : Few n (load bytes old .state) (start bytes)).
         let k : compartments n bytes ≤ numbers = p .0 in absurd (omega arith))
-        (λ (p : (numbers < compartments n bytes) × ((j : ℕ) × Parted n j (load bytes old .state) (start bytes))). p .1) either
+        (λ (p : Many n (load bytes old .state) (start bytes)). p .1) either
 
     -- there is one parting
     pub parting-once : (j k : ℕ) → Parted n j (load bytes old .state) (start bytes) → Parted n k (load bytes old .state) (start bytes) → j ≡ k
@@ -90,8 +90,8 @@ module _ (bytes : List ℕ) (old : State) (ok : load bytes old .answer ≡ answe
       where
         to : tagged n bytes old .answer ≡ answer.no-number → (j : ℕ) × (j < n) × Wants65 j (start bytes)
         to h =
-            ⊎-elim (λ (p : (compartments n bytes ≤ numbers) × Together (tagged n bytes old) (abstract n bytes)). absurd (p .1 .not13 h))
-            (λ (p : (numbers < compartments n bytes) × ((j : ℕ) × Parted n j (load bytes old .state) (start bytes))).
+            ⊎-elim (λ (p : Few n (load bytes old .state) (start bytes)). absurd (p .1 .not13 h))
+            (λ (p : Many n (load bytes old .state) (start bytes)).
             (p .1 .0, p .1 .1 .sooner, p .1 .1 .wants)) either
 
         from : (j : ℕ) × (j < n) × Wants65 j (start bytes) → tagged n bytes old .answer ≡ answer.no-number
@@ -106,11 +106,11 @@ module _ (bytes : List ℕ) (old : State) (ok : load bytes old .answer ≡ answe
     -- 14 and 15 never arise
     pub answers : tagged n bytes old .answer ≤ answer.no-number
     answers =
-        ⊎-elim (λ (p : (compartments n bytes ≤ numbers) × Together (tagged n bytes old) (abstract n bytes)).
+        ⊎-elim (λ (p : Few n (load bytes old .state) (start bytes)).
         let e : tagged n bytes old .answer ≡ abstract n bytes .answer = p .1 .answers in
         let h : abstract n bytes .answer ≤ 12 = run-answers n (start bytes) in
         omega arith)
-        (λ (p : (numbers < compartments n bytes) × ((j : ℕ) × Parted n j (load bytes old .state) (start bytes))).
+        (λ (p : Many n (load bytes old .state) (start bytes)).
         let e : tagged n bytes old .answer ≡ 13 = p .1 .1 .stops in
         omega arith) either
 
@@ -123,9 +123,9 @@ module _ (bytes : List ℕ) (old : State) (ok : load bytes old .answer ≡ answe
     pub words : (x : ℕ) → Changes (tagged n bytes old .state) x → Stored (tagged n bytes old .state) (abstract n bytes .state) x
     unfolding step
     words x d =
-        ⊎-elim (λ (p : (compartments n bytes ≤ numbers) × Together (tagged n bytes old) (abstract n bytes)).
+        ⊎-elim (λ (p : Few n (load bytes old .state) (start bytes)).
         changed (tagged n bytes old .state) (abstract n bytes .state) (p .1 .match) (p .1 .inv) x d)
-        (λ (p : (numbers < compartments n bytes) × ((j : ℕ) × Parted n j (load bytes old .state) (start bytes))).
+        (λ (p : Many n (load bytes old .state) (start bytes)).
         let q = p .1 .1 in
         let e : verdict (tagged n bytes old .state) ≡ 13 =
         step-13 (tagged n bytes old .state) (abstract (p .1 .0) bytes .state) (q .match) (q .inv) .1 (q .full, q .wants .makes, q .wants .another ∙ ap suc (sym (q .wants .all))) in

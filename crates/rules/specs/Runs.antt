@@ -59,8 +59,15 @@ pub record Parted (n j : ℕ) (s : State) (a : paper.State) : Type 0 where
   pub match : Match (run n s .state) (paper.run j a .state)
   pub inv : Inv (run n s .state)
 
+-- n steps with no more than 64 compartments, and with more
+abbrev pub Few : ℕ → State → paper.State → Type 0
+Few n s a = (comps n a ≤ numbers) × Together (run n s) (paper.run n a)
+
+abbrev pub Many : ℕ → State → paper.State → Type 0
+Many n s a = (numbers < comps n a) × ((j : ℕ) × Parted n j s a)
+
 abbrev pub Agreed : ℕ → State → paper.State → Type 0
-Agreed n s a = ((comps n a ≤ numbers) × Together (run n s) (paper.run n a)) ⊎ ((numbers < comps n a) × ((j : ℕ) × Parted n j s a))
+Agreed n s a = Few n s a ⊎ Many n s a
 
 few : (s : State) (a : paper.State) → Match s a → Inv s → length (a .comps) ≤ numbers
 few s a m i = subst (λ (k : ℕ). k ≤ numbers) (sym (m .count)) (i .high)
@@ -139,7 +146,7 @@ module _ (k : ℕ) (s : State) (a : paper.State) (m : Match s a) (i : Inv s) whe
       let et = run-more k s h in
       let ea = laws.run-more k a g in
       ⊎-elim
-      (λ (w : (comps k a′ ≤ numbers) × Together (run k s′) (paper.run k a′)).
+      (λ (w : Few k s′ a′).
       inl (
         simp ea (w .0),
         record {
@@ -150,7 +157,7 @@ module _ (k : ℕ) (s : State) (a : paper.State) (m : Match s a) (i : Inv s) whe
           inv = simp et (w .1 .inv);
         },
       ))
-      (λ (w : (numbers < comps k a′) × ((j : ℕ) × Parted k j s′ a′)).
+      (λ (w : Many k s′ a′).
       inr (simp ea (w .0), (suc (w .1 .0), later (w .1 .0) h g (w .1 .1))))
       rest
 
