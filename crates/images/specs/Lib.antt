@@ -5,3 +5,4 @@ pub mod Loading
 pub mod Promises
 pub mod Reading
 pub mod Verdicts
+pub mod Writing

@@ -108,3 +108,7 @@ listed-rest (x ∷ xs) = go (cases x xs) (listed-rest xs)
     go (some n e) ih =
         let m : suc (length xs) - suc (length (listed xs)) ≡ length xs - length (listed xs) = omega arith in
         rw (e, m) (ap (λ (l : List ℕ). x ∷ l) ih)
+
+-- of sixteen, no more are listed
+pub short : (regs : List ℕ) (k : ℕ) → k ≡ length (listed regs) → length regs ≡ 16 → k ≤ 16
+short regs k e n = let l = listed-short regs in omega arith

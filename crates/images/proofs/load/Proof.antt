@@ -1,93 +1,67 @@
+-- Refusals leave the memories; an accepted image fills the first N places of each.
+use Rattle.images.specs.Loading.{refuses-lengths, refuses-image, ready, loads}
 use borrow.Author.Needs.{needs}
 use Rattle.images.proofs.load.Statement.{statement}
 use Rattle.images.proofs.load.Tie as tie
-use Rattle.images.proofs.load.Reads as reads
-use Rattle.images.proofs.load.Lts as lts
-use Rattle.compartments.proofs.Set.none.Reads as none-reads
-use Rattle.compartments.proofs.Set.of_services.Reads as of-services-reads
-use Rattle.images.proofs.filling.fill_owners.Reads as fill-owners-reads
-use Rattle.images.proofs.filling.fill_sets.Reads as fill-sets-reads
-use Rattle.images.proofs.filling.fill_words.Reads as fill-words-reads
-use Rattle.images.proofs.fresh.Reads as fresh-reads
-use Rattle.images.proofs.not_loaded.Reads as not-loaded-reads
-use Rattle.images.proofs.reading.read.Reads as read-reads
-use Rattle.images.proofs.same_lengths.Reads as same-lengths-reads
 
--- src/lib.rt:75:9
 same-lengths-requires : tie.Need-same-lengths-requires
 same-lengths-requires c κs = search needs
 
--- src/lib.rt:76:9
 not-loaded-requires : tie.Need-not-loaded-requires
 not-loaded-requires c κs = search needs
 
--- src/lib.rt:76:9
 returns : tie.Need-returns
-returns c = ?
+returns c = refuses-lengths _ _ _ _ _ _ (c .before .before .same-lengths .ensures) (c .before .if1 .taken) _ _ (c .not-loaded .ensures)
 
--- src/lib.rt:78:9
 read-requires : tie.Need-read-requires
 read-requires c κs = search needs
 
--- src/lib.rt:81:9
 not-loaded-requires-2 : tie.Need-not-loaded-requires-2
 not-loaded-requires-2 c κs = search needs
 
--- src/lib.rt:81:9
 returns-2 : tie.Need-returns-2
-returns-2 c = ?
+returns-2 c = refuses-image _ _ _ _ _ _ (c .before .before .before .before .same-lengths .ensures) (c .before .before .before .if1 .left) _ (c .before .before .read .ensures) (c .before .if2 .taken) _ _ (c .not-loaded2 .ensures)
 
--- src/lib.rt:83:13
 cast-n : tie.Need-cast-n
 cast-n c = search needs
 
--- src/lib.rt:84:5
 fill-words-requires : tie.Need-fill-words-requires
-fill-words-requires c κs = ?
+fill-words-requires c κs =     let g = c .before .before .before .before .before .before .before .before .before .before .before .args in
+    let r = ready (g .bytes .now) (g .words .now) (g .owners .now) (g .jumpers .now) (g .writers .now) _ (c .before .before .before .before .before .same-lengths .ensures) (c .before .before .before .before .if1 .left) _ (c .before .before .before .read .ensures) (c .before .before .if2 .left) in (r .in-words, r .in-bytes)
 
--- src/lib.rt:85:5
 fill-owners-requires : tie.Need-fill-owners-requires
-fill-owners-requires c κs = ?
+fill-owners-requires c κs =     let g = c .before .before .before .before .before .before .before .before .before .before .before .before .before .before .before .args in ready (g .bytes .now) (g .words .now) (g .owners .now) (g .jumpers .now) (g .writers .now) _ (c .before .before .before .before .before .before .before .before .before .same-lengths .ensures) (c .before .before .before .before .before .before .before .before .if1 .left) _ (c .before .before .before .before .before .before .before .read .ensures) (c .before .before .before .before .before .before .if2 .left) .in-owners
 
--- src/lib.rt:86:9
 of-services-requires : tie.Need-of-services-requires
 of-services-requires c κs = search needs
 
--- src/lib.rt:87:5
 fill-sets-requires : tie.Need-fill-sets-requires
-fill-sets-requires c κs = ?
+fill-sets-requires c κs =     let g = c .before .before .before .before .before .before .before .before .before .before .before .before .before .before .before .before .before .before .before .before .args in ready (g .bytes .now) (g .words .now) (g .owners .now) (g .jumpers .now) (g .writers .now) _ (c .before .before .before .before .before .before .before .before .before .before .before .before .before .before .same-lengths .ensures) (c .before .before .before .before .before .before .before .before .before .before .before .before .before .if1 .left) _ (c .before .before .before .before .before .before .before .before .before .before .before .before .read .ensures) (c .before .before .before .before .before .before .before .before .before .before .before .if2 .left) .in-jumpers
 
--- src/lib.rt:88:9
 none-requires : tie.Need-none-requires
 none-requires c κs = search needs
 
--- src/lib.rt:89:5
 fill-sets-requires-2 : tie.Need-fill-sets-requires-2
-fill-sets-requires-2 c κs = ?
+fill-sets-requires-2 c κs =     let g = c .before .before .before .before .before .before .before .before .before .before .before .before .before .before .before .before .before .before .before .before .before .before .before .before .before .args in ready (g .bytes .now) (g .words .now) (g .owners .now) (g .jumpers .now) (g .writers .now) _ (c .before .before .before .before .before .before .before .before .before .before .before .before .before .before .before .before .before .before .before .same-lengths .ensures) (c .before .before .before .before .before .before .before .before .before .before .before .before .before .before .before .before .before .before .if1 .left) _ (c .before .before .before .before .before .before .before .before .before .before .before .before .before .before .before .before .before .read .ensures) (c .before .before .before .before .before .before .before .before .before .before .before .before .before .before .before .before .if2 .left) .in-writers
 
--- src/lib.rt:91:9
 fresh-requires : tie.Need-fresh-requires
 fresh-requires c κs = search needs
 
--- src/lib.rt:72:1
 same-length : tie.Need-same-length
 same-length c = search needs
 
--- src/lib.rt:72:1
 same-length-2 : tie.Need-same-length-2
 same-length-2 c = search needs
 
--- src/lib.rt:72:1
 same-length-3 : tie.Need-same-length-3
 same-length-3 c = search needs
 
--- src/lib.rt:72:1
 same-length-4 : tie.Need-same-length-4
 same-length-4 c = search needs
 
--- src/lib.rt:72:1
 returns-3 : tie.Need-returns-3
-returns-3 c = ?
+returns-3 c =     let g = c .before .before .before .before .before .before .before .before .before .before .before .before .before .before .before .before .before .before .before .before .before .before .before .before .before .before .before .before .before .before .args in
+    loads (g .bytes .now) (g .words .now) (g .owners .now) (g .jumpers .now) (g .writers .now) _ (c .before .before .before .before .before .before .before .before .before .before .before .before .before .before .before .before .before .before .before .before .before .before .before .before .same-lengths .ensures) (c .before .before .before .before .before .before .before .before .before .before .before .before .before .before .before .before .before .before .before .before .before .before .before .if1 .left) _ (c .before .before .before .before .before .before .before .before .before .before .before .before .before .before .before .before .before .before .before .before .before .before .read .ensures) (c .before .before .before .before .before .before .before .before .before .before .before .before .before .before .before .before .before .before .before .before .before .if2 .left) _ _ _ _ _ _ (c .before .before .before .before .before .before .before .before .before .before .before .before .before .before .before .before .before .before .fill-words .ensures) (c .before .before .before .before .before .before .before .before .before .before .before .before .before .before .fill-owners .ensures) (c .before .before .before .before .before .before .before .before .before .before .before .of-services .ensures) (c .before .before .before .before .before .before .before .before .before .fill-sets .ensures) (c .before .before .before .before .before .before .none .ensures) (c .before .before .before .before .fill-sets2 .ensures) _ (c .fresh .ensures)
 
 pub load-spec : {M : Type 1} → statement M
 load-spec =
