@@ -25,6 +25,13 @@ unfolding fields
 length-fields bytes p zero = refl
 length-fields bytes p (suc k) = ap suc (length-fields bytes (p + 4) k)
 
+pub getD-fields : (bytes : List ℕ) (p k i : ℕ) → i < k → getD (fields bytes p k) i 0 ≡ field bytes (p + 4 * i)
+unfolding fields
+getD-fields bytes p zero i h = absurd (omega arith)
+getD-fields bytes p (suc k) zero h = ap (field bytes) (sym (add-zero p))
+getD-fields bytes p (suc k) (suc i) h =
+    let e : p + 4 + 4 * i ≡ p + 4 * suc i = omega arith in getD-fields bytes (p + 4) k i (omega arith) ∙ ap (field bytes) e
+
 fields-suc : (bytes : List ℕ) (p k : ℕ) → fields bytes p (suc k) ≡ fields bytes p k ++ (field bytes (p + 4 * k) ∷ [])
 unfolding fields
 fields-suc bytes p zero = ap (λ (q : ℕ). field bytes q ∷ []) (sym (add-zero p))

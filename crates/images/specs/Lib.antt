@@ -4,5 +4,6 @@ pub mod Listed
 pub mod Loading
 pub mod Promises
 pub mod Reading
+pub mod RoundTrip
 pub mod Verdicts
 pub mod Writing

@@ -1,12 +1,14 @@
 -- The registers up to the last that is not 0: a front of the sixteen, after which all are 0.
 use mathlib.Core.Path.{_≡_, refl, sym, ap, _∙_}
 use mathlib.Core.Bool.{Bool, true, false, cond, _&&_}
-use mathlib.Core.List.{List, [], _∷_, _++_, append-nil}
+use mathlib.Core.List.{List, [], _∷_, _++_}
+use mathlib.Core.Logic.{_⊎_, inl, inr}
 use Prim.Native.Nat.{ℕ, zero, suc, _+_, _-_, _≤_, _<_}
 use native.Mathlib.Omega.{arith}
-use borrow.Author.Tests.{eqb-true, eqb-false, eq-eqb, ne-eqb}
-use lib.Dec.{eqb}
-use lib.ListN.{getD, length, take, replicate}
+use borrow.Author.Tests.{leb-true, leb-false, eqb-true, eqb-false, eq-eqb, ne-eqb}
+use lib.Dec.{leb, eqb}
+use lib.ListN.{getD, length, take, replicate, List·getD-append}
+use lib.Seq.{take-append-seam, getD-append-add}
 use Rattle.common.specs.Tests.{both}
 use Rattle.rules.specs.Images.{listed}
 
@@ -112,3 +114,42 @@ listed-rest (x ∷ xs) = go (cases x xs) (listed-rest xs)
 -- of sixteen, no more are listed
 pub short : (regs : List ℕ) (k : ℕ) → k ≡ length (listed regs) → length regs ≡ 16 → k ≤ 16
 short regs k e n = let l = listed-short regs in omega arith
+
+-- ---- what is listed of a front and zeros
+
+at-most : (xs : List ℕ) (n : ℕ) → ((j : ℕ) → n ≤ j → getD xs j 0 ≡ 0) → length (listed xs) ≤ n
+at-most xs n h = go (leb (length (listed xs)) n) refl
+  where
+    go : (t : Bool) → leb (length (listed xs)) n ≡ t → length (listed xs) ≤ n
+    go true e = leb-true (length (listed xs)) n e
+    go false e =
+        let q = leb-false (length (listed xs)) n e in
+        absurd (listed-last xs (length (listed xs) - 1) (omega arith) (h (length (listed xs) - 1) (omega arith)))
+
+zeros-at : (z i : ℕ) → _≡_ {A = ℕ} (getD (replicate z 0) i 0) 0
+zeros-at zero i = refl
+zeros-at (suc z) zero = refl
+zeros-at (suc z) (suc i) = zeros-at z i
+
+-- the front, if it ends in no 0
+pub listed-front : (front : List ℕ) (z : ℕ) → (length front ≡ 0) ⊎ (getD front (length front - 1) 0 ≡ 0 → ⊥) → listed (front ++ replicate z 0) ≡ front
+listed-front front z last =
+    let most : length (listed (front ++ replicate z 0)) ≤ length front = at-most (front ++ replicate z 0) (length front) zero-past in
+    let least : length front ≤ length (listed (front ++ replicate z 0)) = go (eqb (length front) 0) refl last in
+    let l : length (listed (front ++ replicate z 0)) ≡ length front = omega arith in
+    sym (listed-take (front ++ replicate z 0)) ∙ ap (λ (k : ℕ). take k (front ++ replicate z 0)) l ∙ take-append-seam front (replicate z 0)
+  where
+    zero-past : (j : ℕ) → length front ≤ j → getD (front ++ replicate z 0) j 0 ≡ 0
+    zero-past j h =
+        let e : j ≡ length front + (j - length front) = omega arith in
+        ap (λ (i : ℕ). getD (front ++ replicate z 0) i 0) e ∙ getD-append-add front (replicate z 0) (j - length front) 0 ∙ zeros-at z (j - length front)
+
+    go : (t : Bool) → eqb (length front) 0 ≡ t → (length front ≡ 0) ⊎ (getD front (length front - 1) 0 ≡ 0 → ⊥)
+        → length front ≤ length (listed (front ++ replicate z 0))
+    go true e c = let n = eqb-true (length front) 0 e in omega arith
+    go false e (inl n) = absurd (eqb-false (length front) 0 e n)
+    go false e (inr ne) =
+        let n = eqb-false (length front) 0 e in
+        let g = List·getD-append front (replicate z 0) 0 (length front - 1) (omega arith) in
+        let p = listed-past (front ++ replicate z 0) (length front - 1) (λ q. ne (sym g ∙ q)) in
+        omega arith
