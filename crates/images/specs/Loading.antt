@@ -84,7 +84,7 @@ pub record Ready (bytes words owners jumpers writers : List ℕ) (n : ℕ) : Typ
   pub in-bytes : 4 + 4 * n ≤ length bytes
 
 -- a refusal leaves the blank record and the memories
-refuses : (bytes : List ℕ) (old : State) (v : ℕ) → v ≡ loadVerdict bytes old → (v ≡ 0 → ⊥) → record { answer = v; state = notLoaded old } ≡ load bytes old
+pub refuses : (bytes : List ℕ) (old : State) (v : ℕ) → v ≡ loadVerdict bytes old → (v ≡ 0 → ⊥) → record { answer = v; state = notLoaded old } ≡ load bytes old
 unfolding load
 refuses bytes old v e ne = simp (ne-eqb (loadVerdict bytes old) 0 (λ z. ne (e ∙ z)), e)
 

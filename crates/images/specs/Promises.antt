@@ -32,13 +32,13 @@ load-view =
     record {
       seen = λ o. loadedOf (o .result) (o .words) (o .owners) (o .jumpers) (o .writers);
       back = λ m.
-      record {
-        result = record { cpu = processorOf (m .state .cpu); answer = m .answer };
-        words = m .state .words;
-        owners = m .state .owners;
-        jumpers = m .state .jumpers;
-        writers = m .state .writers;
-      };
+          record {
+            result = record { cpu = processorOf (m .state .cpu); answer = m .answer };
+            words = m .state .words;
+            owners = m .state .owners;
+            jumpers = m .state .jumpers;
+            writers = m .state .writers;
+          };
       whole = λ o. refl;
     }
 

@@ -1,19 +1,19 @@
 -- Both round trips: an accepted image is written again byte for byte, and what the writer wrote is read back as meant.
-use mathlib.Core.Path.{_≡_, refl, sym, ap, _∙_}
+use mathlib.Core.Path.{_≡_, refl, sym, ap, _∙_, subst}
 use mathlib.Core.Bool.{Bool, true, false, _||_}
 use mathlib.Core.List.{List, [], _∷_, _++_, append-assoc}
 use mathlib.Core.Logic.{_⊎_, inl, inr}
 use Prim.Native.Nat.{ℕ, zero, suc, _+_, _-_, _*_, _/_, _%_, _^_, _≤_, _<_}
-use native.Mathlib.Nat.{add-mul-mod-self-left, mod-eq-of-lt}
+use native.Mathlib.Nat.{add-mul-mod-self-left, mod-eq-of-lt, div-add-mod, div-div-eq-div-mul}
 use lib.Arith.{digits-div}
 use native.Mathlib.Omega.{arith}
 use borrow.Author.Tests.{ltb-true, lt-ltb, eqb-true, eqb-false, eq-eqb, ne-eqb}
 use lib.Dec.{ltb, eqb}
 use lib.ListN.{getD, length, take, drop, replicate, length-append, List·getD-append, List·getD-eq-default}
-use lib.Seq.{drop-cons, drop-drop, drop-append-add, take-add, take-all, take-append-seam, getD-append-add}
+use lib.Seq.{drop-cons, drop-drop, drop-append-add, take-add, take-all, take-append-seam, take-at, getD-append-add, getD-take}
 use Rattle.common.specs.Answers as answer
 use Rattle.rules.specs.State.{State}
-use Rattle.rules.specs.Images.{field, fields, sizeIn, registersAt, registersIn, entryAt, entryIn, wordsOf, regsOf, lastListed, loadVerdict, fresh, over, loaded, load, fourBytes, allBytes, section, listed, imageBytes, writeVerdict, write}
+use Rattle.rules.specs.Images.{field, fields, sizeIn, registersAt, registersIn, entryAt, entryIn, wordsOf, regsOf, lastListed, loadVerdict, fresh, over, loaded, load, fourBytes, allBytes, section, listed, imageBytes, Written, write}
 use Rattle.images.specs.Accepted.{Accepted, Fits, load-accepted, accepts-load}
 use Rattle.images.specs.Filling.{length-fields, getD-fields, length-all-bytes, all-bytes-append}
 use Rattle.images.specs.Listed.{listed-short, listed-last, listed-take, listed-rest, listed-front}
@@ -79,7 +79,7 @@ listed-again lent bytes a =
   where
     go : (t : Bool) → eqb (registersIn bytes) 0 ≡ t
         → (length (fields bytes (registersAt bytes + 4) (registersIn bytes)) ≡ 0)
-          ⊎ (getD (fields bytes (registersAt bytes + 4) (registersIn bytes)) (length (fields bytes (registersAt bytes + 4) (registersIn bytes)) - 1) 0 ≡ 0 → ⊥)
+        ⊎ (getD (fields bytes (registersAt bytes + 4) (registersIn bytes)) (length (fields bytes (registersAt bytes + 4) (registersIn bytes)) - 1) 0 ≡ 0 → ⊥)
     go true e = inl (length-fields bytes (registersAt bytes + 4) (registersIn bytes) ∙ eqb-true (registersIn bytes) 0 e)
     go false e =
         let n = eqb-false (registersIn bytes) 0 e in
@@ -118,7 +118,7 @@ write-loaded words regs entry old out new e =
 pub written-again : (bytes : List ℕ) (old : State) (out : List ℕ)
     → ((i : ℕ) → i < length bytes → getD bytes i 0 < 256) → load bytes old .answer ≡ answer.done → length bytes ≤ length out
     → write (take (load bytes old .state .cpu .n) (load bytes old .state .words)) (load bytes old .state .cpu .regs) (load bytes old .state .cpu .pc) out
-      ≡ record { answer = answer.done; length = length bytes; out = bytes ++ drop (length bytes) out }
+    ≡ record { answer = answer.done; length = length bytes; out = bytes ++ drop (length bytes) out }
 written-again bytes old out small h room =
     let f = load-accepted bytes old h in
     let a = f .image in
@@ -130,3 +130,219 @@ written-again bytes old out small h room =
     let s3 = a .entry-below in
     let w = written (wordsOf bytes) (regsOf bytes) (entryIn bytes) out (omega arith) (omega arith) (omega arith) (length (listed (regsOf bytes))) refl (omega arith) in
     write-loaded (wordsOf bytes) (regsOf bytes) (entryIn bytes) old out (load bytes old .state) (load-state bytes old h) ∙ sym w ∙ simp (← len, back)
+
+-- ---- (b) from numbers to bytes and back
+
+pos : (x : ℕ) → (x ≡ 0 → ⊥) → 0 < x
+pos zero ne = absurd (ne refl)
+pos (suc x) ne = omega arith
+
+-- every number is one word
+abbrev Small : List ℕ → Type 0
+Small [] = Unit {0}
+Small (x ∷ xs) = (x < 4294967296) × Small xs
+
+small-of : (xs : List ℕ) → ((i : ℕ) → i < length xs → getD xs i 0 < 4294967296) → Small xs
+small-of [] h = tt
+small-of (x ∷ xs) h = (h 0 (omega arith), small-of xs (λ i k. h (suc i) (omega arith)))
+
+small-append : (xs ys : List ℕ) → Small xs → Small ys → Small (xs ++ ys)
+small-append [] ys h k = k
+small-append (x ∷ xs) ys h k = (h .0, small-append xs ys (h .1) k)
+
+small-take : (n : ℕ) (xs : List ℕ) → Small xs → Small (take n xs)
+small-take zero xs h = tt
+small-take (suc n) [] h = tt
+small-take (suc n) (x ∷ xs) h = (h .0, small-take n xs (h .1))
+
+-- past four bytes
+field-past : (x : ℕ) (l : List ℕ) (p : ℕ) → field (fourBytes x ++ l) (4 + p) ≡ field l p
+unfolding field
+field-past x l p =
+    let one : 4 + p + 1 ≡ 4 + (p + 1) = omega arith in
+    let two : 4 + p + 2 ≡ 4 + (p + 2) = omega arith in
+    let three : 4 + p + 3 ≡ 4 + (p + 3) = omega arith in
+    simp (one, two, three, getD-append-add (fourBytes x) l p 0, getD-append-add (fourBytes x) l (p + 1) 0, getD-append-add (fourBytes x) l (p + 2) 0, getD-append-add (fourBytes x) l (p + 3) 0)
+
+field-first : (x : ℕ) (l : List ℕ) → x < 4294967296 → field (fourBytes x ++ l) 0 ≡ x
+unfolding field
+field-first x l h =
+    let y : x / 65536 ≡ x / 256 / 256 = sym (div-div-eq-div-mul x 256 256) in
+    let z : x / 16777216 ≡ x / 256 / 256 / 256 = sym (div-div-eq-div-mul x 65536 256) ∙ ap (λ (q : ℕ). q / 256) y in
+    let a = div-add-mod x 256 in
+    let b = div-add-mod (x / 256) 256 in
+    let c = div-add-mod (x / 256 / 256) 256 in
+    let d : x / 256 / 256 / 256 < 256 = omega arith in
+    let e : x / 256 / 256 / 256 % 256 ≡ x / 256 / 256 / 256 = mod-eq-of-lt d in
+    rw (y, z, e) (omega arith)
+
+-- number i stands in the four bytes from 4 * i on
+field-all : (xs : List ℕ) (i : ℕ) → Small xs → i < length xs → field (allBytes xs) (4 * i) ≡ getD xs i 0
+unfolding allBytes
+field-all [] i s h = absurd (omega arith)
+field-all (x ∷ xs) zero s h = field-first x (allBytes xs) (s .0)
+field-all (x ∷ xs) (suc i) s h =
+    let e : 4 * suc i ≡ 4 + 4 * i = omega arith in
+    ap (field (fourBytes x ++ allBytes xs)) e ∙ field-past x (allBytes xs) (4 * i) ∙ field-all xs i (s .1) (omega arith)
+
+fields-all : (xs : List ℕ) (i k : ℕ) → Small xs → i + k ≤ length xs → fields (allBytes xs) (4 * i) k ≡ take k (drop i xs)
+unfolding fields
+fields-all xs i zero s h = refl
+fields-all xs i (suc k) s h =
+    let e : 4 * i + 4 ≡ 4 * suc i = omega arith in
+    let d : drop i xs ≡ getD xs i 0 ∷ drop (suc i) xs = drop-cons xs i 0 (omega arith) in
+    rw (e, d, field-all xs i s (omega arith), fields-all xs (suc i) k s (omega arith))
+
+-- the numbers of an image, in their order
+abbrev numbersOf : List ℕ → List ℕ → ℕ → List ℕ
+numbersOf words regs entry = (length words ∷ words) ++ ((length (listed regs) ∷ listed regs) ++ (1 ∷ entry ∷ []))
+
+-- a section is its count and its numbers
+section-numbers : (xs : List ℕ) → section xs ≡ allBytes (length xs ∷ xs)
+unfolding section allBytes
+section-numbers xs = refl
+
+image-numbers : (words regs : List ℕ) (entry : ℕ) → imageBytes words regs entry ≡ allBytes (numbersOf words regs entry)
+unfolding imageBytes
+image-numbers words regs entry =
+    let a = all-bytes-append (length words ∷ words) ((length (listed regs) ∷ listed regs) ++ (1 ∷ entry ∷ [])) in
+    let b = all-bytes-append (length (listed regs) ∷ listed regs) (1 ∷ entry ∷ []) in
+    let c = append-assoc (section words) (section (listed regs)) (section (entry ∷ [])) in
+    c ∙ simp (section-numbers, a, b)
+
+module _ (words regs : List ℕ) (entry : ℕ) (least : 1 ≤ length words) (most : length words ≤ 2048) (words-small : (i : ℕ) → i < length words → getD words i 0 < 4294967296) (sixteen : length regs ≡ 16) (regs-small : (i : ℕ) → i < length regs → getD regs i 0 < 4294967296) (below : entry < length words) where
+  abbrev n : ℕ
+  n = length words
+
+  abbrev k : ℕ
+  k = length (listed regs)
+
+  abbrev bytes : List ℕ
+  bytes = imageBytes words regs entry
+
+  abbrev zs : List ℕ
+  zs = numbersOf words regs entry
+
+  few : k ≤ 16
+  few = let s = listed-short regs in omega arith
+
+  small : Small zs
+  small =
+      let f = few in
+      small-append (n ∷ words) _ (omega arith, small-of words words-small)
+      (small-append (k ∷ listed regs) _ (omega arith, subst Small (listed-take regs) (small-take k regs (small-of regs regs-small))) (omega arith, (omega arith, tt)))
+
+  many : length zs ≡ 4 + n + k
+  many =
+      let a = length-append (n ∷ words) ((k ∷ listed regs) ++ (1 ∷ entry ∷ [])) in
+      let b = length-append (k ∷ listed regs) (1 ∷ entry ∷ []) in
+      omega arith
+
+  number-at : (i : ℕ) → i < 4 + n + k → field bytes (4 * i) ≡ getD zs i 0
+  number-at i h = let m = many in ap (λ (l : List ℕ). field l (4 * i)) (image-numbers words regs entry) ∙ field-all zs i small (omega arith)
+
+  numbers-at : (i j : ℕ) → i + j ≤ 4 + n + k → fields bytes (4 * i) j ≡ take j (drop i zs)
+  numbers-at i j h = let m = many in ap (λ (l : List ℕ). fields l (4 * i) j) (image-numbers words regs entry) ∙ fields-all zs i j small (omega arith)
+
+  -- past the words
+  after : (i : ℕ) → getD zs (suc n + i) 0 ≡ getD ((k ∷ listed regs) ++ (1 ∷ entry ∷ [])) i 0
+  after i = getD-append-add (n ∷ words) ((k ∷ listed regs) ++ (1 ∷ entry ∷ [])) i 0
+
+  size-is : sizeIn bytes ≡ n
+  size-is = number-at 0 (omega arith)
+
+  count-is : registersIn bytes ≡ k
+  count-is =
+      let p : registersAt bytes ≡ 4 * (suc n + 0) = let s = size-is in omega arith in
+      ap (field bytes) p ∙ number-at (suc n + 0) (omega arith) ∙ after 0
+
+  entry-at : entryAt bytes ≡ 4 * (suc n + (suc k + 0))
+  entry-at = let s = size-is in let c = count-is in omega arith
+
+  one-is : field bytes (entryAt bytes) ≡ 1
+  one-is = ap (field bytes) entry-at ∙ number-at (suc n + (suc k + 0)) (omega arith) ∙ after (suc k + 0) ∙ getD-append-add (k ∷ listed regs) (1 ∷ entry ∷ []) 0 0
+
+  entry-is : entryIn bytes ≡ entry
+  entry-is =
+      let p : entryAt bytes + 4 ≡ 4 * (suc n + (suc k + 1)) = let e = entry-at in omega arith in
+      ap (field bytes) p ∙ number-at (suc n + (suc k + 1)) (omega arith) ∙ after (suc k + 1) ∙ getD-append-add (k ∷ listed regs) (1 ∷ entry ∷ []) 1 0
+
+  words-are : wordsOf bytes ≡ words
+  words-are =
+      ap (fields bytes 4) size-is ∙ numbers-at 1 n (omega arith) ∙ take-append-seam words ((k ∷ listed regs) ++ (1 ∷ entry ∷ []))
+
+  -- the listed registers
+  listed-are : fields bytes (registersAt bytes + 4) (registersIn bytes) ≡ listed regs
+  listed-are =
+      let p : registersAt bytes + 4 ≡ 4 * (suc n + 1) = let s = size-is in omega arith in
+      ap (fields bytes (registersAt bytes + 4)) count-is ∙ ap (λ (x : ℕ). fields bytes x k) p ∙ numbers-at (suc n + 1) k (omega arith)
+      ∙ ap (take k) (drop-append-add (n ∷ words) ((k ∷ listed regs) ++ (1 ∷ entry ∷ [])) 1)
+      ∙ take-append-seam (listed regs) (1 ∷ entry ∷ [])
+
+  regs-are : regsOf bytes ≡ regs
+  regs-are =
+      ap (λ (l : List ℕ). l ++ replicate (16 - registersIn bytes) 0) listed-are
+      ∙ ap (λ (x : ℕ). listed regs ++ replicate (16 - x) 0) count-is
+      ∙ ap (λ (x : ℕ). listed regs ++ replicate (x - k) 0) (sym sixteen) ∙ listed-rest regs
+
+  last-is : lastListed bytes ≡ true
+  unfolding lastListed
+  last-is = go (eqb k 0) refl
+    where
+      go : (t : Bool) → eqb k 0 ≡ t → (eqb (registersIn bytes) 0 || ltb 0 (field bytes (registersAt bytes + 4 * registersIn bytes))) ≡ true
+      go true e = simp (eq-eqb (registersIn bytes) 0 (count-is ∙ eqb-true k 0 e))
+      go false e =
+          let ne = eqb-false k 0 e in
+          let j : k ≡ suc (k - 1) = omega arith in
+          let p : registersAt bytes + 4 * registersIn bytes ≡ 4 * (suc n + k) = let s = size-is in let c = count-is in omega arith in
+          let a : getD ((k ∷ listed regs) ++ (1 ∷ entry ∷ [])) k 0 ≡ getD (k ∷ listed regs) k 0 = List·getD-append (k ∷ listed regs) (1 ∷ entry ∷ []) 0 k (omega arith) in
+          let b : getD (k ∷ listed regs) k 0 ≡ getD (listed regs) (k - 1) 0 = ap (λ (i : ℕ). getD (k ∷ listed regs) i 0) j in
+          let c : getD (listed regs) (k - 1) 0 ≡ getD regs (k - 1) 0 = ap (λ (l : List ℕ). getD l (k - 1) 0) (sym (listed-take regs)) ∙ getD-take k regs (k - 1) 0 (omega arith) in
+          let v : field bytes (registersAt bytes + 4 * registersIn bytes) ≡ getD regs (k - 1) 0 = ap (field bytes) p ∙ number-at (suc n + k) (omega arith) ∙ after k ∙ a ∙ b ∙ c in
+          let w = listed-last regs (k - 1) j in
+          let d : 0 < field bytes (registersAt bytes + 4 * registersIn bytes) = pos _ (λ z. w (sym v ∙ z)) in
+          simp (ne-eqb (registersIn bytes) 0 (λ z. ne (sym count-is ∙ z)), lt-ltb 0 (field bytes (registersAt bytes + 4 * registersIn bytes)) d)
+
+  accepted-image : (lent : ℕ) → n ≤ lent → Accepted lent bytes
+  accepted-image lent room =
+      let s = size-is in
+      let c = count-is in
+      let e = entry-is in
+      let f = few in
+      let l = length-image words regs entry in
+      record {
+        size-least = omega arith;
+        size-most = omega arith;
+        size-lent = omega arith;
+        count-most = omega arith;
+        last = last-is;
+        one-entry = one-is;
+        entry-below = omega arith;
+        length-is = omega arith;
+      }
+
+  -- over any memories of one length that have room for the words
+  load-image : (old : State) → n ≤ length (old .words) → length (old .owners) ≡ length (old .words) → length (old .jumpers) ≡ length (old .words) → length (old .writers) ≡ length (old .words)
+      → load bytes old ≡ record { answer = answer.done; state = loaded words regs entry old }
+  load-image old room o j w =
+      let h : load bytes old .answer ≡ answer.done = accepts-load bytes old (record { owners = o; jumpers = j; writers = w; image = accepted-image (length (old .words)) room }) in
+      let s : load bytes old .state ≡ loaded words regs entry old = load-state bytes old h ∙ ap (λ (l : List ℕ). loaded l (regsOf bytes) (entryIn bytes) old) words-are ∙ ap (λ (l : List ℕ). loaded words l (entryIn bytes) old) regs-are ∙ ap (λ (x : ℕ). loaded words regs x old) entry-is in
+      ap (λ (v : ℕ). record { answer = v; state = load bytes old .state }) h ∙ ap (λ (t : State). record { answer = answer.done; state = t }) s
+
+-- what was written is loaded, whole
+pub read-again : (words regs : List ℕ) (entry : ℕ) (out : List ℕ) (old : State)
+    → 1 ≤ length words → length words ≤ 2048 → ((i : ℕ) → i < length words → getD words i 0 < 2 ^ 32)
+    → length regs ≡ 16 → ((i : ℕ) → i < length regs → getD regs i 0 < 2 ^ 32) → entry < length words
+    → length (imageBytes words regs entry) ≤ length out → length words ≤ length (old .words)
+    → length (old .owners) ≡ length (old .words) → length (old .jumpers) ≡ length (old .words) → length (old .writers) ≡ length (old .words)
+    → (write words regs entry out .answer ≡ answer.done)
+    × (load (take (write words regs entry out .length) (write words regs entry out .out)) old
+    ≡ record { answer = answer.done; state = loaded words regs entry old })
+read-again words regs entry out old least most words-small sixteen regs-small below fits room o j w =
+    let l = length-image words regs entry in
+    let done : record { answer = answer.done; length = 16 + 4 * length words + 4 * length (listed regs); out = over (imageBytes words regs entry) out } ≡ write words regs entry out = written words regs entry out least most below (length (listed regs)) refl (omega arith) in
+    let front : take (16 + 4 * length words + 4 * length (listed regs)) (over (imageBytes words regs entry) out) ≡ imageBytes words regs entry = take-at (imageBytes words regs entry) (drop (length (imageBytes words regs entry)) out) (16 + 4 * length words + 4 * length (listed regs)) l in (
+      ap (λ (r : Written). r .answer) (sym done),
+      ap (λ (r : Written). load (take (r .length) (r .out)) old) (sym done) ∙ ap (λ (b : List ℕ). load b old) front
+          ∙ load-image words regs entry least most words-small sixteen regs-small below old room o j w,
+    )

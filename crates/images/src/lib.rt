@@ -69,7 +69,13 @@ fn not_loaded(answer: u32) -> Loaded
 }
 
 // Loads an image into lent memories: all checks first, then the first N places of each are filled.
-pub fn load(bytes: &[u8], words: &mut [u32], owners: &mut [u32], jumpers: &mut [u64], writers: &mut [u64]) -> Loaded
+pub fn load(
+    bytes: &[u8],
+    words: &mut [u32],
+    owners: &mut [u32],
+    jumpers: &mut [u64],
+    writers: &mut [u64],
+) -> Loaded
     ensures { λ r. ⌜ loadedOf r (now (words .exit)) (now (owners .exit)) (now (jumpers .exit)) (now (writers .exit)) ≡ load (now (bytes .entry)) (lent (now (words .entry)) (now (owners .entry)) (now (jumpers .entry)) (now (writers .entry))) ⌝ }
 {
     if !same_lengths(words.len(), owners.len(), jumpers.len(), writers.len()) {

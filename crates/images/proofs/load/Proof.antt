@@ -26,23 +26,23 @@ cast-n : tie.Need-cast-n
 cast-n c = search needs
 
 fill-words-requires : tie.Need-fill-words-requires
-fill-words-requires c κs =     let g = c .before .before .before .before .before .before .before .before .before .before .before .args in
+fill-words-requires c κs = let g = c .before .before .before .before .before .before .before .before .before .before .before .args in
     let r = ready (g .bytes .now) (g .words .now) (g .owners .now) (g .jumpers .now) (g .writers .now) _ (c .before .before .before .before .before .same-lengths .ensures) (c .before .before .before .before .if1 .left) _ (c .before .before .before .read .ensures) (c .before .before .if2 .left) in (r .in-words, r .in-bytes)
 
 fill-owners-requires : tie.Need-fill-owners-requires
-fill-owners-requires c κs =     let g = c .before .before .before .before .before .before .before .before .before .before .before .before .before .before .before .args in ready (g .bytes .now) (g .words .now) (g .owners .now) (g .jumpers .now) (g .writers .now) _ (c .before .before .before .before .before .before .before .before .before .same-lengths .ensures) (c .before .before .before .before .before .before .before .before .if1 .left) _ (c .before .before .before .before .before .before .before .read .ensures) (c .before .before .before .before .before .before .if2 .left) .in-owners
+fill-owners-requires c κs = let g = c .before .before .before .before .before .before .before .before .before .before .before .before .before .before .before .args in ready (g .bytes .now) (g .words .now) (g .owners .now) (g .jumpers .now) (g .writers .now) _ (c .before .before .before .before .before .before .before .before .before .same-lengths .ensures) (c .before .before .before .before .before .before .before .before .if1 .left) _ (c .before .before .before .before .before .before .before .read .ensures) (c .before .before .before .before .before .before .if2 .left) .in-owners
 
 of-services-requires : tie.Need-of-services-requires
 of-services-requires c κs = search needs
 
 fill-sets-requires : tie.Need-fill-sets-requires
-fill-sets-requires c κs =     let g = c .before .before .before .before .before .before .before .before .before .before .before .before .before .before .before .before .before .before .before .before .args in ready (g .bytes .now) (g .words .now) (g .owners .now) (g .jumpers .now) (g .writers .now) _ (c .before .before .before .before .before .before .before .before .before .before .before .before .before .before .same-lengths .ensures) (c .before .before .before .before .before .before .before .before .before .before .before .before .before .if1 .left) _ (c .before .before .before .before .before .before .before .before .before .before .before .before .read .ensures) (c .before .before .before .before .before .before .before .before .before .before .before .if2 .left) .in-jumpers
+fill-sets-requires c κs = let g = c .before .before .before .before .before .before .before .before .before .before .before .before .before .before .before .before .before .before .before .before .args in ready (g .bytes .now) (g .words .now) (g .owners .now) (g .jumpers .now) (g .writers .now) _ (c .before .before .before .before .before .before .before .before .before .before .before .before .before .before .same-lengths .ensures) (c .before .before .before .before .before .before .before .before .before .before .before .before .before .if1 .left) _ (c .before .before .before .before .before .before .before .before .before .before .before .before .read .ensures) (c .before .before .before .before .before .before .before .before .before .before .before .if2 .left) .in-jumpers
 
 none-requires : tie.Need-none-requires
 none-requires c κs = search needs
 
 fill-sets-requires-2 : tie.Need-fill-sets-requires-2
-fill-sets-requires-2 c κs =     let g = c .before .before .before .before .before .before .before .before .before .before .before .before .before .before .before .before .before .before .before .before .before .before .before .before .before .args in ready (g .bytes .now) (g .words .now) (g .owners .now) (g .jumpers .now) (g .writers .now) _ (c .before .before .before .before .before .before .before .before .before .before .before .before .before .before .before .before .before .before .before .same-lengths .ensures) (c .before .before .before .before .before .before .before .before .before .before .before .before .before .before .before .before .before .before .if1 .left) _ (c .before .before .before .before .before .before .before .before .before .before .before .before .before .before .before .before .before .read .ensures) (c .before .before .before .before .before .before .before .before .before .before .before .before .before .before .before .before .if2 .left) .in-writers
+fill-sets-requires-2 c κs = let g = c .before .before .before .before .before .before .before .before .before .before .before .before .before .before .before .before .before .before .before .before .before .before .before .before .before .args in ready (g .bytes .now) (g .words .now) (g .owners .now) (g .jumpers .now) (g .writers .now) _ (c .before .before .before .before .before .before .before .before .before .before .before .before .before .before .before .before .before .before .before .same-lengths .ensures) (c .before .before .before .before .before .before .before .before .before .before .before .before .before .before .before .before .before .before .if1 .left) _ (c .before .before .before .before .before .before .before .before .before .before .before .before .before .before .before .before .before .read .ensures) (c .before .before .before .before .before .before .before .before .before .before .before .before .before .before .before .before .if2 .left) .in-writers
 
 fresh-requires : tie.Need-fresh-requires
 fresh-requires c κs = search needs
@@ -60,7 +60,7 @@ same-length-4 : tie.Need-same-length-4
 same-length-4 c = search needs
 
 returns-3 : tie.Need-returns-3
-returns-3 c =     let g = c .before .before .before .before .before .before .before .before .before .before .before .before .before .before .before .before .before .before .before .before .before .before .before .before .before .before .before .before .before .before .args in
+returns-3 c = let g = c .before .before .before .before .before .before .before .before .before .before .before .before .before .before .before .before .before .before .before .before .before .before .before .before .before .before .before .before .before .before .args in
     loads (g .bytes .now) (g .words .now) (g .owners .now) (g .jumpers .now) (g .writers .now) _ (c .before .before .before .before .before .before .before .before .before .before .before .before .before .before .before .before .before .before .before .before .before .before .before .before .same-lengths .ensures) (c .before .before .before .before .before .before .before .before .before .before .before .before .before .before .before .before .before .before .before .before .before .before .before .if1 .left) _ (c .before .before .before .before .before .before .before .before .before .before .before .before .before .before .before .before .before .before .before .before .before .before .read .ensures) (c .before .before .before .before .before .before .before .before .before .before .before .before .before .before .before .before .before .before .before .before .before .if2 .left) _ _ _ _ _ _ (c .before .before .before .before .before .before .before .before .before .before .before .before .before .before .before .before .before .before .fill-words .ensures) (c .before .before .before .before .before .before .before .before .before .before .before .before .before .before .fill-owners .ensures) (c .before .before .before .before .before .before .before .before .before .before .before .of-services .ensures) (c .before .before .before .before .before .before .before .before .before .fill-sets .ensures) (c .before .before .before .before .before .before .none .ensures) (c .before .before .before .before .fill-sets2 .ensures) _ (c .fresh .ensures)
 
 pub load-spec : {M : Type 1} → statement M

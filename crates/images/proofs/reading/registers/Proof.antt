@@ -41,7 +41,7 @@ loop-less : tie.Need-loop-less Inv-loop μ-loop
 loop-less c = omega arith
 
 loop-again : tie.Need-loop-again Inv-loop μ-loop
-loop-again c =     let g = c .before .before .before .before .args in
+loop-again c = let g = c .before .before .before .before .args in
     let x = c .before .before .loop in (
       omega arith,
       simp length-set (x .inv .1),
@@ -50,7 +50,7 @@ loop-again c =     let g = c .before .before .before .before .args in
     )
 
 returns : tie.Need-returns Inv-loop μ-loop
-returns c =     let g = c .before .before .before .args in
+returns c = let g = c .before .before .before .args in
     let x = c .before .loop in
     let e : x .i ≡ g .count = omega arith in
     x .inv .2 ∙ ap (λ (k : ℕ). over (fields (g .bytes .now) (g .at) k) (replicate 16 0)) e ∙ fields-zeros (g .bytes .now) (g .at) (g .count) 16

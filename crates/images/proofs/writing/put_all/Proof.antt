@@ -42,7 +42,7 @@ loop-less : tie.Need-loop-less Inv-loop μ-loop
 loop-less c = omega arith
 
 loop-again : tie.Need-loop-again Inv-loop μ-loop
-loop-again c =     let g = c .before .before .before .before .before .before .before .before .before .args in
+loop-again c = let g = c .before .before .before .before .before .before .before .before .before .args in
     let x = c .before .before .before .before .before .before .loop in (
       omega arith,
       c .before .before .put .kept .0 ∙ x .inv .1,
@@ -54,7 +54,7 @@ same-length : tie.Need-same-length Inv-loop μ-loop
 same-length c = omega arith
 
 returns : tie.Need-returns Inv-loop μ-loop
-returns c =     let g = c .before .before .before .before .args in
+returns c = let g = c .before .before .before .before .args in
     let x = c .before .loop in
     let e : x .i ≡ g .k = omega arith in
     x .inv .2 ∙ ap (λ (k : ℕ). sets (g .out .now) (g .at) (allBytes (take k (g .xs .now)))) e

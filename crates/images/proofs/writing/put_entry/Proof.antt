@@ -23,7 +23,7 @@ same-length c = search needs
 
 returns : tie.Need-returns
 unfolding allBytes
-returns c =     let g = c .before .before .before .before .before .before .before .before .before .args in
+returns c = let g = c .before .before .before .before .before .before .before .before .before .args in
     c .before .before .put2 .ensures ∙ ap (λ (m : List ℕ). sets m (g .at + 4) (fourBytes (g .entry))) (c .before .before .before .before .before .before .put .ensures) ∙ stores-section (g .entry ∷ []) (g .out .now) (g .at)
 
 pub put-entry-spec : {M : Type 1} → statement M

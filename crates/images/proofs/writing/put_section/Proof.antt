@@ -36,7 +36,7 @@ same-length : tie.Need-same-length
 same-length c = search needs
 
 returns : tie.Need-returns
-returns c =     let g = c .before .before .before .before .before .before .before .before .before .before .args in
+returns c = let g = c .before .before .before .before .before .before .before .before .before .before .args in
     let n : length (take (g .k) (g .xs .now)) ≡ g .k = length-take-le (g .k) (g .xs .now) (omega arith) in (
       refl,
       c .before .before .put-all .ensures ∙ ap (λ (m : List ℕ). sets m (g .at + 4) (allBytes (take (g .k) (g .xs .now)))) (c .before .before .before .before .before .before .put .ensures ∙ ap (λ (k : ℕ). sets (g .out .now) (g .at) (fourBytes k)) (sym n))
