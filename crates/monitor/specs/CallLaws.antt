@@ -4,20 +4,20 @@ use mathlib.Core.Bool.{Bool, true, false, cond, _&&_, _||_, not, or-false}
 use mathlib.Core.List.{List, [], _∷_}
 use Prim.Native.Nat.{ℕ, zero, suc, _+_, _-_, _<_, _≤_}
 use native.Mathlib.Omega.{arith}
-use borrow.Author.Tests.{leb-true, eq-eqb, ne-eqb}
+use borrow.Author.Tests.{leb-true, eq-eqb, ne-eqb, not-true, not-false}
 use lib.Dec.{ltb, leb, eqb}
 use lib.ListN.{getD}
 use Rattle.common.specs.Answers as answer
 use Rattle.common.specs.Tests.{both}
 use Rattle.common.specs.Instructions.{reg}
 use Rattle.common.specs.Services.{isolate, serviceCount, isService}
-use Rattle.common.specs.AddressSets.{setAt, isEmpty, inSet, within}
+use Rattle.common.specs.AddressSets.{setAt, goodSet, isEmpty, inSet, within}
 use Rattle.rules.specs.Compartments.{numbers, member, empty}
 use Rattle.rules.specs.CompartmentLaws.{member-empty}
 use Rattle.rules.specs.State.{State, inMemory, hasOwner, ownerAt, jumpersAt, writersAt, owns, mayJump, mayStore}
 use Rattle.rules.specs.Checks.{setA, setJ, setS, goodSets, setsWithin, returns, isolateVerdict, addVerdict}
 use Rattle.rules.specs.Step.{owned, joined, joinedServices, joinAt}
-use Rattle.monitor.specs.SetLaws.{Counted, all-counted}
+use Rattle.monitor.specs.SetLaws.{Counted, all-counted, empty-count}
 use Rattle.monitor.specs.Outcomes.{called, isolating, adding}
 
 -- what the owners, and the sets at words and services, say
@@ -36,12 +36,21 @@ leaves words q n c owners x = ltb x n && owns (asked n owners [] []) c x && not 
 abbrev pub nobody : List ℕ
 nobody = empty ∷ []
 
--- each of the three sets is within what the caller reaches by the sets of numbers that count for it
-abbrev pub allWithin : List ℕ → ℕ → ℕ → ℕ → ℕ → ℕ → List ℕ → List ℕ → List ℕ → List ℕ → Bool
-allWithin words a j s n c owners jumpers writers services =
-    within (setAt words a) (reaches (asked n owners nobody nobody) c)
-    && within (setAt words j) (reaches (asked n owners jumpers services) c)
-    && within (setAt words s) (reaches (asked n owners writers nobody) c)
+-- each of the three sets is within what c reaches by the sets of numbers that count for it
+abbrev pub allWithin : State → ℕ → Bool
+allWithin s c =
+    within (setA s) (reaches (asked (s .cpu .n) (s .owners) nobody nobody) c)
+    && within (setJ s) (reaches (asked (s .cpu .n) (s .owners) (s .jumpers) (s .cpu .services)) c)
+    && within (setS s) (reaches (asked (s .cpu .n) (s .owners) (s .writers) nobody) c)
+
+-- no set is bad
+abbrev pub allGood : State → Bool
+allGood s =
+    goodSet (s .words) (s .cpu .n) (reg (s .cpu .regs) 1) && goodSet (s .words) (s .cpu .n) (reg (s .cpu .regs) 2)
+    && goodSet (s .words) (s .cpu .n) (reg (s .cpu .regs) 3)
+
+abbrev pub AllCounted : List ℕ → List ℕ → Type 0
+AllCounted words regs = Counted words (reg regs 1) × Counted words (reg regs 2) × Counted words (reg regs 3)
 
 pub service-from : (x : ℕ) → isService x ≡ true → isolate ≤ x
 unfolding isService
@@ -105,7 +114,7 @@ module _ (s : State) (c : ℕ) where
       go false true = nobody-at (x - isolate)
       go false false = refl
 
-  pub sets-within : allWithin (s .words) (reg (s .cpu .regs) 1) (reg (s .cpu .regs) 2) (reg (s .cpu .regs) 3) (s .cpu .n) c (s .owners) (s .jumpers) (s .writers) (s .cpu .services) ≡ setsWithin s c
+  pub sets-within : allWithin s c ≡ setsWithin s c
   unfolding setsWithin
   sets-within = simp (fun-ext reaches-own, fun-ext reaches-jump, fun-ext reaches-store)
 
@@ -115,77 +124,96 @@ module _ (s : State) (c : ℕ) where
       ap (λ (b : Bool). ltb (reg (s .cpu .regs) 15) (s .cpu .n) && b && not (inSet (setA s) (reg (s .cpu .regs) 15)))
       (same-owns (seen [] []) s c (reg (s .cpu .regs) 15) refl refl)
 
--- ---- each return of isolate's checks
+-- ---- each return of isolate's checks, from what the code's tests say
 
-module _ (s : State) (c : ℕ) where
-  pub bad-sets : goodSets s ≡ false → isolateVerdict s c ≡ answer.bad-set
-  unfolding isolateVerdict
-  bad-sets h = simp h
-
-  -- what is done was good, and so its sets are counted
-  done-good : isolateVerdict s c ≡ answer.done → goodSets s ≡ true
-  done-good h = go (goodSets s) refl
-    where
-      go : (b : Bool) → goodSets s ≡ b → goodSets s ≡ true
-      go true e = e
-      go false e = let z : answer.bad-set ≡ answer.done = sym (bad-sets e) ∙ h in absurd (omega arith)
-
-  pub done-counted : isolateVerdict s c ≡ answer.done → s .cpu .n < 4294967296
-      → Counted (s .words) (reg (s .cpu .regs) 1) × Counted (s .words) (reg (s .cpu .regs) 2) × Counted (s .words) (reg (s .cpu .regs) 3)
+-- the code's first test of isolate has the result t, and so on
+module _ (s : State) (c : ℕ) (t : Bool) (good : t ≡ allGood s) where
+  good-sets : (b : Bool) → t ≡ b → goodSets s ≡ b
   unfolding goodSets
-  done-counted h f = all-counted (s .words) (s .cpu .n) (reg (s .cpu .regs) 1) (reg (s .cpu .regs) 2) (reg (s .cpu .regs) 3) f (done-good h)
+  good-sets b h = sym good ∙ h
 
-  module _ (good : goodSets s ≡ true) where
-    pub no-addresses : isEmpty (setA s) ≡ true → isolateVerdict s c ≡ answer.empty-set
+  pub bad-sets : not t ≡ true → answer.bad-set ≡ isolateVerdict s c
+  unfolding isolateVerdict
+  bad-sets h = simp (good-sets false (not-true t h))
+
+  module _ (is-good : not t ≡ false) (k : ℕ) (count : k ≡ getD (s .words) (reg (s .cpu .regs) 1) 0) where
+    is-empty : (b : Bool) → eqb k 0 ≡ b → isEmpty (setA s) ≡ b
+    is-empty b h = empty-count (s .words) (reg (s .cpu .regs) 1) ∙ ap (λ (m : ℕ). eqb m 0) (sym count) ∙ h
+
+    pub no-addresses : k ≡ 0 → answer.empty-set ≡ isolateVerdict s c
     unfolding isolateVerdict
-    no-addresses h = simp (good, h)
+    no-addresses h = simp (good-sets true (not-false t is-good), is-empty true (eq-eqb k 0 h))
 
-    module _ (some : isEmpty (setA s) ≡ false) where
-      pub not-within : setsWithin s c ≡ false → isolateVerdict s c ≡ answer.not-within
+    module _ (some : k ≡ 0 → ⊥) (u : Bool) (inside : u ≡ allWithin s c) where
+      pub not-within : not u ≡ true → answer.not-within ≡ isolateVerdict s c
       unfolding isolateVerdict
-      not-within h = simp (good, some, h)
+      not-within h =
+          simp (good-sets true (not-false t is-good), is-empty false (ne-eqb k 0 some), sym (sets-within s c) ∙ sym inside ∙ not-true u h)
 
-      module _ (inside : setsWithin s c ≡ true) where
-        pub no-return : returns s c ≡ false → isolateVerdict s c ≡ answer.no-return
+      module _ (is-inside : not u ≡ false) (v : Bool) (back : v ≡ leaves (s .words) (reg (s .cpu .regs) 1) (s .cpu .n) c (s .owners) (reg (s .cpu .regs) 15)) where
+        last : (b : Bool) → v ≡ b → isolateVerdict s c ≡ cond b (cond (eqb (s .cpu .next) numbers) answer.no-number answer.done) answer.no-return
         unfolding isolateVerdict
-        no-return h = simp (good, some, inside, h)
+        last b h =
+            simp (good-sets true (not-false t is-good), is-empty false (ne-eqb k 0 some), sym (sets-within s c) ∙ sym inside ∙ not-false u is-inside, sym (leaves-returns s c) ∙ sym back ∙ h)
 
-        module _ (back : returns s c ≡ true) where
-          pub no-number : s .cpu .next ≡ numbers → isolateVerdict s c ≡ answer.no-number
-          unfolding isolateVerdict
-          no-number h = simp (good, some, inside, back, eq-eqb (s .cpu .next) numbers h)
+        pub no-return : not v ≡ true → answer.no-return ≡ isolateVerdict s c
+        no-return h = sym (last false (not-true v h))
 
-          pub all-pass : (s .cpu .next ≡ numbers → ⊥) → isolateVerdict s c ≡ answer.done
-          unfolding isolateVerdict
-          all-pass h = simp (good, some, inside, back, ne-eqb (s .cpu .next) numbers h)
+        module _ (is-back : not v ≡ false) where
+          pub no-number : s .cpu .next ≡ numbers → answer.no-number ≡ isolateVerdict s c
+          no-number h = sym (last true (not-false v is-back) ∙ simp (eq-eqb (s .cpu .next) numbers h))
+
+          pub all-pass : (s .cpu .next ≡ numbers → ⊥) → answer.done ≡ isolateVerdict s c
+          all-pass h = sym (last true (not-false v is-back) ∙ simp (ne-eqb (s .cpu .next) numbers h))
 
 -- ---- the outcomes
 
-pub isolate-stops : (s : State) (a : ℕ) → a ≡ isolateVerdict s (s .cpu .prev) → (a ≡ answer.done → ⊥)
-    → record { answer = a; services = s .cpu .services; owners = s .owners; jumpers = s .jumpers; writers = s .writers } ≡ isolating s
-unfolding isolating
-isolate-stops s a e h = simp (← e, ne-eqb a answer.done h)
+-- where the code's checks answer a
+module _ (s : State) (a : ℕ) (e : a ≡ isolateVerdict s (s .cpu .prev)) where
+  pub isolate-stops : (a ≡ answer.done → ⊥)
+      → record { answer = a; services = s .cpu .services; owners = s .owners; jumpers = s .jumpers; writers = s .writers } ≡ isolating s
+  unfolding isolating
+  isolate-stops h = simp (← e, ne-eqb a answer.done h)
 
-pub isolate-runs : (s : State) (a : ℕ) → a ≡ isolateVerdict s (s .cpu .prev) → a ≡ answer.done → (services owners jumpers writers : List ℕ)
-    → services ≡ joinedServices (setJ s) (s .cpu .next) (s .cpu .services)
-    → owners ≡ owned (s .cpu .n) (setA s) (s .cpu .next) (s .owners)
-    → jumpers ≡ joined (s .cpu .n) (setJ s) (s .cpu .next) (s .jumpers)
-    → writers ≡ joined (s .cpu .n) (setS s) (s .cpu .next) (s .writers)
-    → record { answer = answer.done; services = services; owners = owners; jumpers = jumpers; writers = writers } ≡ isolating s
-unfolding isolating
-isolate-runs s a e h services owners jumpers writers p q r t = simp (← e, h, p, q, r, t)
+  module _ (is-done : a ≡ answer.done) where
+    -- what is done was good, and so its sets are counted
+    pub done-counted : s .cpu .n < 4294967296 → AllCounted (s .words) (s .cpu .regs)
+    unfolding goodSets
+    done-counted f = all-counted _ _ _ _ _ (goodSets s) refl (go (goodSets s) refl) f
+      where
+        go : (b : Bool) → goodSets s ≡ b → not (goodSets s) ≡ false
+        go true h = ap not h
+        go false h =
+            let z : answer.done ≡ answer.bad-set = sym is-done ∙ e ∙ sym (bad-sets s (s .cpu .prev) (goodSets s) refl (ap not h)) in
+            absurd (omega arith)
 
-module _ (s : State) (sets : List ℕ) where
-  pub not-owned : owns s (s .cpu .prev) (reg (s .cpu .regs) 1) ≡ false → record { answer = answer.not-owned; sets = sets } ≡ adding s sets
+    pub isolate-runs : (services owners jumpers writers : List ℕ)
+        → services ≡ joinedServices (setJ s) (s .cpu .next) (s .cpu .services)
+        → owners ≡ owned (s .cpu .n) (setA s) (s .cpu .next) (s .owners)
+        → jumpers ≡ joined (s .cpu .n) (setJ s) (s .cpu .next) (s .jumpers)
+        → writers ≡ joined (s .cpu .n) (setS s) (s .cpu .next) (s .writers)
+        → record { answer = answer.done; services = services; owners = owners; jumpers = jumpers; writers = writers } ≡ isolating s
+    unfolding isolating
+    isolate-runs services owners jumpers writers p q r t = simp (← e, is-done, p, q, r, t)
+
+-- where the code's test of r1 has the result t, and that of r15 the result u
+module _ (s : State) (sets : List ℕ) (t : Bool) (own : t ≡ owns (asked (s .cpu .n) (s .owners) [] []) (s .cpu .prev) (reg (s .cpu .regs) 1)) where
+  target : (b : Bool) → t ≡ b → owns s (s .cpu .prev) (reg (s .cpu .regs) 1) ≡ b
+  target b h = same-owns s (asked (s .cpu .n) (s .owners) [] []) (s .cpu .prev) (reg (s .cpu .regs) 1) refl refl ∙ sym own ∙ h
+
+  pub not-owned : not t ≡ true → record { answer = answer.not-owned; sets = sets } ≡ adding s sets
   unfolding adding addVerdict
-  not-owned h = simp h
+  not-owned h = simp (target false (not-true t h))
 
-  pub no-way-back : owns s (s .cpu .prev) (reg (s .cpu .regs) 1) ≡ true → owns s (s .cpu .prev) (reg (s .cpu .regs) 15) ≡ false
-      → record { answer = answer.no-return; sets = sets } ≡ adding s sets
-  unfolding adding addVerdict
-  no-way-back h k = simp (h, k)
+  module _ (is-own : not t ≡ false) (u : Bool) (back : u ≡ owns (asked (s .cpu .n) (s .owners) [] []) (s .cpu .prev) (reg (s .cpu .regs) 15)) where
+    way : (b : Bool) → u ≡ b → owns s (s .cpu .prev) (reg (s .cpu .regs) 15) ≡ b
+    way b h = same-owns s (asked (s .cpu .n) (s .owners) [] []) (s .cpu .prev) (reg (s .cpu .regs) 15) refl refl ∙ sym back ∙ h
 
-  pub adds : owns s (s .cpu .prev) (reg (s .cpu .regs) 1) ≡ true → owns s (s .cpu .prev) (reg (s .cpu .regs) 15) ≡ true
-      → record { answer = answer.done; sets = joinAt sets (reg (s .cpu .regs) 1) (s .cpu .prev) } ≡ adding s sets
-  unfolding adding addVerdict
-  adds h k = simp (h, k)
+    pub no-way-back : not u ≡ true → record { answer = answer.no-return; sets = sets } ≡ adding s sets
+    unfolding adding addVerdict
+    no-way-back h = simp (target true (not-false t is-own), way false (not-true u h))
+
+    pub adds : not u ≡ false → (after : List ℕ) → after ≡ joinAt sets (reg (s .cpu .regs) 1) (s .cpu .prev)
+        → record { answer = answer.done; sets = after } ≡ adding s sets
+    unfolding adding addVerdict
+    adds h after e = simp (target true (not-false t is-own), way true (not-false u h), e)

@@ -7,7 +7,7 @@ use native.Mathlib.Nat.{not-suc-le-zero}
 use native.Mathlib.Numerals.{add-one}
 use native.Mathlib.Omega.{arith}
 use native.Mathlib.Decide.{ℕ-discrete}
-use borrow.Author.Tests.{lt-ltb, le-ltb, le-leb, lt-leb, ltb-true, leb-true, ne-eqb}
+use borrow.Author.Tests.{lt-ltb, le-ltb, le-leb, lt-leb, ltb-true, leb-true, ne-eqb, not-true, not-false}
 use lib.Dec.{ltb, leb, eqb}
 use lib.ListN.{getD}
 use Rattle.common.specs.Tests.{both}
@@ -130,13 +130,6 @@ counted words n q f h =
     let l : q + 1 + 2 * getD words q 0 ≤ n = leb-true (q + 1 + 2 * getD words q 0) n (both (ltb q n) (leb (q + 1 + 2 * getD words q 0) n) (i .0) .1) in
     omega arith
 
-pub all-counted : (words : List ℕ) (n a j s : ℕ) → n < 4294967296 → (goodSet words n a && goodSet words n j && goodSet words n s) ≡ true
-    → Counted words a × Counted words j × Counted words s
-all-counted words n a j s f h =
-    let x = both (goodSet words n a && goodSet words n j) (goodSet words n s) h in
-    let y = both (goodSet words n a) (goodSet words n j) (x .0) in
-    (counted words n a f (y .0), counted words n j f (y .1), counted words n s f (x .1))
-
 -- a set of no pairs is the empty one
 pub empty-count : (words : List ℕ) (q : ℕ) → isEmpty (setAt words q) ≡ eqb (getD words q 0) 0
 unfolding setAt pairsAt isEmpty
@@ -145,3 +138,24 @@ empty-count words q = go (getD words q 0)
     go : (k : ℕ) → isEmpty (pairsAt words (q + 1) k) ≡ eqb k 0
     go zero = refl
     go (suc k) = sym (ne-eqb (suc k) 0 (λ e. omega arith))
+
+-- ---- three sets, tested one after the other
+
+module _ (a b d : Bool) (t : Bool) (e : t ≡ a) where
+  pub stops-first : not t ≡ true → false ≡ (a && b && d)
+  stops-first h = simp (← e, not-true t h)
+
+  module _ (h : not t ≡ false) (u : Bool) (f : u ≡ b) where
+    pub stops-second : not u ≡ true → false ≡ (a && b && d)
+    stops-second k = simp (← e, not-false t h, ← f, not-true u k)
+
+    pub third : not u ≡ false → (v : Bool) → v ≡ d → v ≡ (a && b && d)
+    third k v g = simp (← e, not-false t h, ← f, not-false u k) g
+
+-- the code's test of three good sets has the result t
+pub all-counted : (words : List ℕ) (n a j s : ℕ) (t : Bool) → t ≡ (goodSet words n a && goodSet words n j && goodSet words n s) → not t ≡ false
+    → n < 4294967296 → Counted words a × Counted words j × Counted words s
+all-counted words n a j s t e h f =
+    let x = both (goodSet words n a && goodSet words n j) (goodSet words n s) (sym e ∙ not-false t h) in
+    let y = both (goodSet words n a) (goodSet words n j) (x .0) in
+    (counted words n a f (y .0), counted words n j f (y .1), counted words n s f (x .1))

@@ -2,8 +2,7 @@
 ghost use mathlib.Core.Path.{_≡_};
 ghost use mathlib.Core.List.{[]};
 ghost use Rattle.rules.specs.Checks.{isolateVerdict};
-ghost use Rattle.monitor.specs.SetLaws.{Counted};
-ghost use Rattle.monitor.specs.CallLaws.{allWithin};
+ghost use Rattle.monitor.specs.CallLaws.{AllCounted, allWithin};
 ghost use Rattle.monitor.specs.Outcomes.{called, isolating, isolatingOf, adding, addingOf};
 use memory::word_at;
 
@@ -23,30 +22,28 @@ pub struct Isolated {
     pub services: [u64; 3],
 }
 
-// Whether the caller may give the three sets: it owns all of A', and reaches all of J' as a jumper and all of S' as a writer.
+// Whether the caller may give the three sets away: all of A' is its own, and all of J' and of S' is its own or open to it by grants.
 fn all_within(
-    words: &[u32],
-    a: u32,
-    j: u32,
-    s: u32,
+    regs: &[u32; 16],
     n: u32,
     caller: u32,
+    services: &[u64],
+    words: &[u32],
     owners: &[u32],
     jumpers: &[u64],
     writers: &[u64],
-    services: &[u64],
 ) -> bool
-    requires { ⌜ Counted (now words) a × Counted (now words) j × Counted (now words) s ⌝ }
-    ensures { λ r. ⌜ r ≡ allWithin (now (words .entry)) a j s n caller (now (owners .entry)) (now (jumpers .entry)) (now (writers .entry)) (now (services .entry)) ⌝ }
+    requires { ⌜ AllCounted (now words) (now regs) ⌝ }
+    ensures { λ r. ⌜ r ≡ allWithin (called (now (regs .entry)) n caller 0 (now (services .entry)) (now (words .entry)) (now (owners .entry)) (now (jumpers .entry)) (now (writers .entry))) caller ⌝ }
 {
     let nobody = [0u64; 1];
-    if !sets::within(words, a, n, caller, owners, &nobody, &nobody) {
+    if !sets::within(words, regs[1], n, caller, owners, &nobody, &nobody) {
         return false;
     }
-    if !sets::within(words, j, n, caller, owners, jumpers, services) {
+    if !sets::within(words, regs[2], n, caller, owners, jumpers, services) {
         return false;
     }
-    sets::within(words, s, n, caller, owners, writers, &nobody)
+    sets::within(words, regs[3], n, caller, owners, writers, &nobody)
 }
 
 // The checks of isolate in the sheet's order.
@@ -63,31 +60,16 @@ fn isolate_verdict(
 ) -> u32
     ensures { λ r. ⌜ r ≡ isolateVerdict (called (now (regs .entry)) n caller next (now (services .entry)) (now (words .entry)) (now (owners .entry)) (now (jumpers .entry)) (now (writers .entry))) caller ⌝ }
 {
-    let a = regs[1];
-    let j = regs[2];
-    let s = regs[3];
-    let back = regs[15];
-    if !sets::all_good(words, n, a, j, s) {
+    if !sets::all_good(words, n, regs[1], regs[2], regs[3]) {
         return answers::BAD_SET;
     }
-    if word_at(words, a) == 0 {
+    if word_at(words, regs[1]) == 0 {
         return answers::EMPTY_SET;
     }
-    if !all_within(
-        words,
-        a,
-        j,
-        s,
-        n,
-        caller,
-        owners,
-        jumpers,
-        writers,
-        services,
-    ) {
+    if !all_within(regs, n, caller, services, words, owners, jumpers, writers) {
         return answers::NOT_WITHIN;
     }
-    if !sets::returns(words, a, n, caller, owners, back) {
+    if !sets::returns(words, regs[1], n, caller, owners, regs[15]) {
         return answers::NO_RETURN;
     }
     if next == 64 {
@@ -124,15 +106,12 @@ pub fn isolate(
     if answer != answers::DONE {
         return Isolated { answer, services };
     }
-    let a = regs[1];
-    let j = regs[2];
-    let s = regs[3];
-    tags::own(owners, words, n, a, next);
-    tags::join(jumpers, words, n, j, next);
-    tags::join(writers, words, n, s, next);
+    tags::own(owners, words, n, regs[1], next);
+    tags::join(jumpers, words, n, regs[2], next);
+    tags::join(writers, words, n, regs[3], next);
     Isolated {
         answer: answers::DONE,
-        services: tags::join_services(services, words, j, next),
+        services: tags::join_services(services, words, regs[2], next),
     }
 }
 

@@ -1,6 +1,4 @@
-use mathlib.Core.Path.{refl, sym, ap, _∙_}
-use borrow.Author.Tests.{not-true, not-false}
-use Rattle.monitor.specs.CallLaws.{not-owned, no-way-back, adds, same-owns}
+use Rattle.monitor.specs.CallLaws.{not-owned, no-way-back, adds}
 use borrow.Author.Needs.{needs}
 use Rattle.monitor.proofs.add_target.Statement.{statement}
 use Rattle.monitor.proofs.add_target.Tie as tie
@@ -23,7 +21,7 @@ owns-requires c κs = search needs
 
 -- src/lib.rt:78:9
 returns : tie.Need-returns
-returns c = not-owned _ _ (same-owns _ _ _ _ refl refl ∙ sym (c .before .owns .ensures) ∙ not-true _ (c .if1 .taken))
+returns c = not-owned _ _ _ (c .before .owns .ensures) (c .if1 .taken)
 
 -- src/lib.rt:80:9
 owns-requires-2 : tie.Need-owns-requires-2
@@ -31,7 +29,7 @@ owns-requires-2 c κs = search needs
 
 -- src/lib.rt:81:9
 returns-2 : tie.Need-returns-2
-returns-2 c = no-way-back _ _ (same-owns _ _ _ _ refl refl ∙ sym (c .before .before .before .owns .ensures) ∙ not-false _ (c .before .before .if1 .left)) (same-owns _ _ _ _ refl refl ∙ sym (c .before .owns2 .ensures) ∙ not-true _ (c .if2 .taken))
+returns-2 c = no-way-back _ _ _ (c .before .before .before .owns .ensures) (c .before .before .if1 .left) _ (c .before .owns2 .ensures) (c .if2 .taken)
 
 -- src/lib.rt:83:5
 join-at-requires : tie.Need-join-at-requires
@@ -43,7 +41,7 @@ same-length c = search needs
 
 -- src/lib.rt:72:1
 returns-3 : tie.Need-returns-3
-returns-3 c = simp (c .before .before .join-at .ensures) (adds _ _ (same-owns _ _ _ _ refl refl ∙ sym (c .before .before .before .before .before .before .before .owns .ensures) ∙ not-false _ (c .before .before .before .before .before .before .if1 .left)) (same-owns _ _ _ _ refl refl ∙ sym (c .before .before .before .before .before .owns2 .ensures) ∙ not-false _ (c .before .before .before .before .if2 .left)))
+returns-3 c = adds _ _ _ (c .before .before .before .before .before .before .before .owns .ensures) (c .before .before .before .before .before .before .if1 .left) _ (c .before .before .before .before .before .owns2 .ensures) (c .before .before .before .before .if2 .left) _ (c .before .before .join-at .ensures)
 
 pub add-target-spec : {M : Type 1} → statement M
 add-target-spec =

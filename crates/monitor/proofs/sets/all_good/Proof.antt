@@ -1,5 +1,4 @@
-use mathlib.Core.Path.{sym, _∙_}
-use borrow.Author.Tests.{not-true, not-false}
+use Rattle.monitor.specs.SetLaws.{stops-first, stops-second, third}
 use borrow.Author.Needs.{needs}
 use Rattle.monitor.proofs.sets.all_good.Statement.{statement}
 use Rattle.monitor.proofs.sets.all_good.Tie as tie
@@ -13,7 +12,7 @@ good-requires c κs = search needs
 
 -- src/sets.rt:69:9
 returns : tie.Need-returns
-returns c = simp (sym (c .before .good2 .ensures) ∙ not-true _ (c .if1 .taken))
+returns c = stops-first _ _ _ _ (c .before .good2 .ensures) (c .if1 .taken)
 
 -- src/sets.rt:71:9
 good-requires-2 : tie.Need-good-requires-2
@@ -21,7 +20,7 @@ good-requires-2 c κs = search needs
 
 -- src/sets.rt:72:9
 returns-2 : tie.Need-returns-2
-returns-2 c = simp (sym (c .before .before .before .good2 .ensures) ∙ not-false _ (c .before .before .if1 .left), sym (c .before .good3 .ensures) ∙ not-true _ (c .if2 .taken))
+returns-2 c = stops-second _ _ _ _ (c .before .before .before .good2 .ensures) (c .before .before .if1 .left) _ (c .before .good3 .ensures) (c .if2 .taken)
 
 -- src/sets.rt:74:5
 good-requires-3 : tie.Need-good-requires-3
@@ -29,7 +28,7 @@ good-requires-3 c κs = search needs
 
 -- src/sets.rt:65:1
 returns-3 : tie.Need-returns-3
-returns-3 c = simp (sym (c .before .before .before .before .good2 .ensures) ∙ not-false _ (c .before .before .before .if1 .left), sym (c .before .before .good3 .ensures) ∙ not-false _ (c .before .if2 .left)) (c .good4 .ensures)
+returns-3 c = third _ _ _ _ (c .before .before .before .before .good2 .ensures) (c .before .before .before .if1 .left) _ (c .before .before .good3 .ensures) (c .before .if2 .left) _ (c .good4 .ensures)
 
 pub all-good-spec : {M : Type 1} → statement M
 all-good-spec =
