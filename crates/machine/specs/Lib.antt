@@ -2,3 +2,4 @@ pub mod ServiceLaws
 pub mod Views
 pub mod Form
 pub mod RunLaws
+pub mod Promises

@@ -2,3 +2,4 @@ pub mod Moves
 pub mod LeafLaws
 pub mod MoveLaws
 pub mod Applied
+pub mod Promises
