@@ -7,3 +7,7 @@ pub mod WordLaws
 pub mod Instructions
 pub mod Services
 pub mod AddressSets
+pub mod ServiceLaws
+pub mod AddressSetLaws
+pub mod InstructionLaws
+pub mod CheckLaws

@@ -1,1 +1,4 @@
+pub mod ServiceLaws
 pub mod Views
+pub mod Form
+pub mod RunLaws

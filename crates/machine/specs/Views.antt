@@ -2,7 +2,12 @@
 use mathlib.Core.List.{List}
 use Prim.Native.Nat.{ℕ}
 use Rattle.rules.specs.State as rules
+use Rattle.rules.specs.Step as step
+use Rattle.rules.specs.Run as run
+use Rattle.machine.specs.ServiceLaws.{Added}
 use Rattle.machine.specs.declared.Processor.{Processor}
+use Rattle.machine.specs.declared.Stepped.{Stepped}
+use Rattle.machine.specs.declared.Ran.{Ran}
 
 abbrev pub cpuOf : Processor → rules.Processor
 cpuOf p = record { n = p .n; regs = p .regs; pc = p .pc; prev = p .prev; jumped = p .jumped; next = p .next; services = p .services }
@@ -13,3 +18,13 @@ processorOf p = record { n = p .n; regs = p .regs; pc = p .pc; prev = p .prev; j
 -- the record with the words, owners, jumpers and writers lent to a call
 abbrev pub stateOf : Processor → List ℕ → List ℕ → List ℕ → List ℕ → rules.State
 stateOf p words owners jumpers writers = record { cpu = cpuOf p; words = words; owners = owners; jumpers = jumpers; writers = writers }
+
+-- what a step and a run hand back, with what they leave in the memories
+abbrev pub steppedOf : Stepped → List ℕ → List ℕ → List ℕ → List ℕ → step.Stepped
+steppedOf r words owners jumpers writers = record { answer = r .answer; state = stateOf (r .cpu) words owners jumpers writers }
+
+abbrev pub ranOf : Ran → List ℕ → List ℕ → List ℕ → List ℕ → run.Ran
+ranOf r words owners jumpers writers = record { answer = r .answer; state = stateOf (r .cpu) words owners jumpers writers; count = r .count }
+
+abbrev pub addedOf : Stepped → List ℕ → Added
+addedOf r sets = record { answer = r .answer; cpu = cpuOf (r .cpu); sets = sets }

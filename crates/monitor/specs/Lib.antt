@@ -1,1 +1,4 @@
 pub mod Outcomes
+pub mod SetLaws
+pub mod TagLaws
+pub mod CallLaws

@@ -1,0 +1,77 @@
+-- The words read so far stand over what the memory held.
+use native.Mathlib.Omega.{arith}
+use mathlib.Core.Path.{_≡_, refl, ap, _∙_}
+use mathlib.Core.List.{List}
+use Prim.Native.Nat.{ℕ, _+_, _-_, _*_, _≤_}
+use lib.ListN.{length, set, length-set}
+use Rattle.rules.specs.Images.{field, fields, over}
+use Rattle.images.specs.Filling.{fields-more}
+use Rattle.images.proofs.filling.fill_words.Statement.{statement}
+use Rattle.images.proofs.filling.fill_words.Tie as tie
+
+abbrev Inv-loop : tie.InvT-loop
+Inv-loop words₀ bytes n i₀ words i = (i ≤ n) × (length words ≡ length words₀) × (words ≡ over (fields bytes 4 i) words₀)
+
+abbrev μ-loop : tie.MeasureT-loop
+μ-loop words₀ bytes n i₀ words i = n - i
+
+loop-holds : tie.Need-loop-holds Inv-loop μ-loop
+unfolding fields
+loop-holds c = (omega arith, refl, refl)
+
+mul-field : tie.Need-mul-field Inv-loop μ-loop
+mul-field c = omega arith
+
+add-field : tie.Need-add-field Inv-loop μ-loop
+add-field c = omega arith
+
+field-requires : tie.Need-field-requires Inv-loop μ-loop
+field-requires c κs = omega arith
+
+mul-words : tie.Need-mul-words Inv-loop μ-loop
+mul-words c = omega arith
+
+slice-write-words : tie.Need-slice-write-words Inv-loop μ-loop
+slice-write-words c = omega arith
+
+add-i : tie.Need-add-i Inv-loop μ-loop
+add-i c = omega arith
+
+loop-less : tie.Need-loop-less Inv-loop μ-loop
+loop-less c = omega arith
+
+loop-again : tie.Need-loop-again Inv-loop μ-loop
+loop-again c = let g = c .before .before .before .before .before .args in
+    let x = c .before .before .loop in (
+      omega arith,
+      simp length-set (x .inv .1),
+      ap (set (x .words) (x .i)) (c .field .ensures) ∙ ap (λ (m : List ℕ). set m (x .i) (field (g .bytes .now) (4 + 4 * x .i))) (x .inv .2)
+          ∙ fields-more (g .bytes .now) (g .words .now) 4 (x .i) (omega arith),
+    )
+
+same-length : tie.Need-same-length Inv-loop μ-loop
+same-length c = omega arith
+
+returns : tie.Need-returns Inv-loop μ-loop
+returns c = let g = c .before .before .before .before .args in
+    let x = c .before .loop in
+    let e : x .i ≡ g .n = omega arith in
+    x .inv .2 ∙ ap (λ (k : ℕ). over (fields (g .bytes .now) 4 k) (g .words .now)) e
+
+pub fill-words-spec : {M : Type 1} → statement M
+fill-words-spec =
+    tie.close
+    (tie.spec
+    Inv-loop
+    μ-loop
+    loop-holds
+    mul-field
+    add-field
+    field-requires
+    mul-words
+    slice-write-words
+    add-i
+    loop-less
+    loop-again
+    same-length
+    returns)

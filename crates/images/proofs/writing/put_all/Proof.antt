@@ -1,0 +1,78 @@
+-- The numbers put so far are stored one after the other.
+use native.Mathlib.Omega.{arith}
+use mathlib.Core.Path.{_≡_, refl, ap, _∙_}
+use mathlib.Core.List.{List}
+use Prim.Native.Nat.{ℕ, _+_, _-_, _*_, _≤_}
+use lib.ListN.{length, take, getD}
+use lib.Seq.{sets}
+use Rattle.rules.specs.Images.{fourBytes, allBytes}
+use Rattle.images.specs.Filling.{stores-more}
+use Rattle.images.proofs.writing.put_all.Statement.{statement}
+use Rattle.images.proofs.writing.put_all.Tie as tie
+
+abbrev Inv-loop : tie.InvT-loop
+Inv-loop out₀ at xs k i₀ out i = (i ≤ k) × (length out ≡ length out₀) × (out ≡ sets out₀ at (allBytes (take i xs)))
+
+abbrev μ-loop : tie.MeasureT-loop
+μ-loop out₀ at xs k i₀ out i = k - i
+
+loop-holds : tie.Need-loop-holds Inv-loop μ-loop
+unfolding allBytes
+loop-holds c = (omega arith, refl, refl)
+
+mul-put : tie.Need-mul-put Inv-loop μ-loop
+mul-put c = omega arith
+
+add-put : tie.Need-add-put Inv-loop μ-loop
+add-put c = omega arith
+
+mul-put-2 : tie.Need-mul-put-2 Inv-loop μ-loop
+mul-put-2 c = omega arith
+
+shared-slice-read-put : tie.Need-shared-slice-read-put Inv-loop μ-loop
+shared-slice-read-put c = omega arith
+
+put-requires : tie.Need-put-requires Inv-loop μ-loop
+put-requires c κs = omega arith
+
+add-i : tie.Need-add-i Inv-loop μ-loop
+add-i c = omega arith
+
+loop-less : tie.Need-loop-less Inv-loop μ-loop
+loop-less c = omega arith
+
+loop-again : tie.Need-loop-again Inv-loop μ-loop
+loop-again c = let g = c .before .before .before .before .before .before .before .before .before .args in
+    let x = c .before .before .before .before .before .before .loop in (
+      omega arith,
+      c .before .before .put .kept .0 ∙ x .inv .1,
+      c .before .before .put .ensures ∙ ap (λ (m : List ℕ). sets m (g .at + 4 * x .i) (fourBytes (getD (g .xs .now) (x .i) 0))) (x .inv .2)
+          ∙ stores-more (g .xs .now) (g .out .now) (g .at) (x .i) (omega arith),
+    )
+
+same-length : tie.Need-same-length Inv-loop μ-loop
+same-length c = omega arith
+
+returns : tie.Need-returns Inv-loop μ-loop
+returns c = let g = c .before .before .before .before .args in
+    let x = c .before .loop in
+    let e : x .i ≡ g .k = omega arith in
+    x .inv .2 ∙ ap (λ (k : ℕ). sets (g .out .now) (g .at) (allBytes (take k (g .xs .now)))) e
+
+pub put-all-spec : {M : Type 1} → statement M
+put-all-spec =
+    tie.close
+    (tie.spec
+    Inv-loop
+    μ-loop
+    loop-holds
+    mul-put
+    add-put
+    mul-put-2
+    shared-slice-read-put
+    put-requires
+    add-i
+    loop-less
+    loop-again
+    same-length
+    returns)

@@ -1,0 +1,10 @@
+pub mod Accepted
+pub mod Filling
+pub mod Listed
+pub mod Loading
+pub mod Prefix
+pub mod Promises
+pub mod Reading
+pub mod RoundTrip
+pub mod Verdicts
+pub mod Writing

@@ -1,0 +1,167 @@
+-- A run in the forms in which the code's loop comes to it.
+use mathlib.Core.Path.{_≡_, refl, sym, ap, _∙_, subst}
+use mathlib.Core.Bool.{Bool, true, false, cond, not}
+use mathlib.Core.List.{List}
+use mathlib.Core.Logic.{_≢_}
+use Prim.Native.Nat.{ℕ, zero, suc, _+_, _-_, _≤_, _<_}
+use native.Mathlib.Omega.{arith}
+use native.Mathlib.Nat.{zero-add, add-zero, sub-zero}
+use native.Mathlib.Numerals.{add-one}
+use borrow.Author.Tests.{not-true, not-false, eqb-true}
+use lib.Dec.{eqb}
+use lib.ListN.{length}
+use Rattle.common.specs.Answers as answer
+use Rattle.rules.specs.State.{State}
+use Rattle.rules.specs.Checks.{formed, verdict}
+use Rattle.rules.specs.Step.{Stepped, step}
+use Rattle.rules.specs.Run.{Ran, oneMore, ended, run}
+use Rattle.rules.specs.FormLaws.{n-most}
+use Rattle.rules.specs.StepLaws.{run-goes-on, run-ends}
+use Rattle.rules.specs.Rest.{step-keeps-rest}
+use Rattle.rules.specs.Formed.{step-formed}
+use Rattle.moves.specs.declared.Move.{Move}
+use Rattle.moves.specs.Moves.{moveOf}
+use Rattle.moves.specs.Applied.{putReg, putWord, applied, moveAt, move-stops, move-runs}
+use Rattle.machine.specs.Form.{formedBy, formed-by}
+
+-- ---- a run that goes on after count steps
+
+-- what a run comes to of which count steps are behind it
+abbrev pub after : ℕ → Ran → Ran
+after count r = record { answer = r .answer; state = r .state; count = count + r .count }
+
+begins : (budget : ℕ) (s : State) → run budget s ≡ after 0 (run (budget - 0) s)
+begins budget s = simp (sub-zero, zero-add)
+
+module _ (budget count : ℕ) (s : State) where
+  one-more : count < budget → budget - count ≡ suc (budget - (count + 1))
+  one-more h = omega arith
+
+  goes-on : count < budget → step s .answer ≡ answer.done → after count (run (budget - count) s) ≡ after (count + 1) (run (budget - (count + 1)) (step s .state))
+  goes-on h e =
+      ap (λ (k : ℕ). after count (run k s)) (one-more h) ∙ ap (after count) (run-goes-on (budget - (count + 1)) s e)
+      ∙ ap (λ (k : ℕ). record { answer = r .answer; state = r .state; count = k }) (sums (r .count))
+    where
+      r : Ran
+      r = run (budget - (count + 1)) (step s .state)
+
+      sums : (k : ℕ) → count + suc k ≡ count + 1 + k
+      sums k = omega arith
+
+  ends : count < budget → step s .answer ≢ answer.done → after count (run (budget - count) s) ≡ record { answer = step s .answer; state = step s .state; count = count }
+  ends h e = ap (λ (k : ℕ). after count (run k s)) (one-more h) ∙ ap (after count) (run-ends (budget - (count + 1)) s e) ∙ simp add-zero
+
+  used : budget ≤ count → after count (run (budget - count) s) ≡ record { answer = answer.done; state = s; count = count }
+  unfolding run
+  used h = let k : budget - count ≡ 0 = omega arith in simp (k, add-zero)
+
+-- ---- what holds at the loop's head: count steps of the run from s₀ are behind, and s is reached
+
+pub record Going (s₀ s : State) (budget count : ℕ) : Type 0 where
+  pub most : count ≤ budget
+  pub words : length (s .words) ≡ length (s₀ .words)
+  pub owners : length (s .owners) ≡ length (s₀ .owners)
+  pub jumpers : length (s .jumpers) ≡ length (s₀ .jumpers)
+  pub writers : length (s .writers) ≡ length (s₀ .writers)
+  pub form : formed s ≡ true
+  pub so-far : run budget s₀ ≡ after count (run (budget - count) s)
+
+-- before the loop
+module _ (budget : ℕ) (s : State) where
+  pub nothing : budget ≡ 0 → record { answer = answer.done; state = s; count = 0 } ≡ run budget s
+  unfolding run
+  nothing h = simp h
+
+  module _ (t : Bool) (e : t ≡ formedBy (s .cpu) (length (s .words)) (length (s .owners)) (length (s .jumpers)) (length (s .writers))) where
+    pub unformed : budget ≢ 0 → not t ≡ true → record { answer = answer.bad-form; state = s; count = 0 } ≡ run budget s
+    unfolding step verdict
+    unformed b h =
+        let f : formed s ≡ false = formed-by s ∙ sym e ∙ not-true t h in
+        let v : step s ≡ record { answer = answer.bad-form; state = s } = simp f in
+        let z : step s .answer ≡ answer.bad-form = ap (λ (o : Stepped). o .answer) v in
+        sym (begins budget s ∙ ends budget 0 s (omega arith) (λ k. omega arith) ∙ ap (λ (o : Stepped). record { answer = o .answer; state = o .state; count = 0 }) v)
+
+    pub starts : not t ≡ false → Going s s budget 0
+    starts h =
+        record { most = omega arith; words = refl; owners = refl; jumpers = refl; writers = refl; form = formed-by s ∙ sym e ∙ not-false t h; so-far = begins budget s }
+
+module _ (s₀ s : State) (budget count : ℕ) (g : Going s₀ s budget count) where
+  -- the budget is used
+  pub all-used : budget ≤ count → record { answer = answer.done; state = s; count = count } ≡ run budget s₀
+  all-used h = sym (g .so-far ∙ used budget count s h)
+
+  -- one turn, by whatever way o is the step of s
+  module _ (h : count < budget) (o : Stepped) (e : o ≡ step s) where
+    pub stops : o .answer ≢ answer.done → record { answer = o .answer; state = o .state; count = count } ≡ run budget s₀
+    stops a =
+        sym (g .so-far ∙ ends budget count s h (λ k. a (ap (λ (x : Stepped). x .answer) e ∙ k))
+        ∙ ap (λ (x : Stepped). record { answer = x .answer; state = x .state; count = count }) (sym e))
+
+    pub turns : o .answer ≡ answer.done → Going s₀ (o .state) budget (count + 1)
+    turns a = subst (λ (x : Stepped). Going s₀ (x .state) budget (count + 1)) (sym e) there
+      where
+        ran : step s .answer ≡ answer.done
+        ran = ap (λ (x : Stepped). x .answer) (sym e) ∙ a
+
+        there : Going s₀ (step s .state) budget (count + 1)
+        there =
+            let k = step-keeps-rest s in
+            record {
+              most = omega arith;
+              words = k .words .same-length ∙ g .words;
+              owners = k .owners .same-length ∙ g .owners;
+              jumpers = k .jumpers .same-length ∙ g .jumpers;
+              writers = k .writers .same-length ∙ g .writers;
+              form = step-formed s (g .form);
+              so-far = g .so-far ∙ goes-on budget count s h ran;
+            }
+
+  -- at a memory word: m is what was decided
+  module _ (h : count < budget) (k : s .cpu .pc < s .cpu .n) (m : Move) (e : m ≡ moveAt s) where
+    small : s .cpu .n ≤ 4294967295
+    small = let l = n-most s (g .form) in omega arith
+
+    pub word-stops : m .answer ≢ answer.done → record { answer = m .answer; state = s; count = count } ≡ run budget s₀
+    word-stops a = stops h (record { answer = m .answer; state = s }) (move-stops s (g .form) k small m e a) a
+
+    pub word-turns : m .answer ≡ answer.done → (regs words : List ℕ) → regs ≡ putReg (s .cpu .regs) (m .rd) (m .value) → words ≡ putWord (s .words) (s .cpu .n) (m .place) (m .word)
+        → Going s₀
+        (record {
+          cpu = record { n = s .cpu .n; regs = regs; pc = m .pc; prev = m .owner; jumped = m .jumped; next = s .cpu .next; services = s .cpu .services };
+          words = words;
+          owners = s .owners;
+          jumpers = s .jumpers;
+          writers = s .writers;
+        }) budget (count + 1)
+    word-turns a regs words r w = turns h _ (moved ∙ move-runs s (g .form) k small m e a) refl
+      where
+        moved : _≡_ {A = Stepped}
+            (record {
+              answer = answer.done;
+              state =
+                  record {
+                    cpu = record { n = s .cpu .n; regs = regs; pc = m .pc; prev = m .owner; jumped = m .jumped; next = s .cpu .next; services = s .cpu .services };
+                    words = words;
+                    owners = s .owners;
+                    jumpers = s .jumpers;
+                    writers = s .writers;
+                  };
+            })
+            (record { answer = answer.done; state = applied s m })
+        moved = simp (r, w)
+
+-- ---- one step is a run of budget 1
+
+pub run-one : (s : State) (r : Ran) → r ≡ run 1 s → record { answer = r .answer; state = r .state } ≡ step s
+unfolding run
+run-one s r e = ap (λ (x : Ran). record { answer = x .answer; state = x .state }) e ∙ go (eqb (step s .answer) answer.done) refl
+  where
+    go : (t : Bool) → eqb (step s .answer) answer.done ≡ t
+        → _≡_ {A = Stepped}
+        (record {
+          answer = cond t (oneMore (ended answer.done (step s .state))) (ended (step s .answer) (step s .state)) .answer;
+          state = cond t (oneMore (ended answer.done (step s .state))) (ended (step s .answer) (step s .state)) .state;
+        })
+        (step s)
+    go true k = ap (λ (a : ℕ). record { answer = a; state = step s .state }) (sym (eqb-true (step s .answer) answer.done k))
+    go false k = refl

@@ -1,0 +1,154 @@
+-- The tagged machine against the abstract one, from the bytes of any accepted image and for any number of steps.
+use mathlib.Core.Path.{_≡_, sym, ap, _∙_, subst}
+use mathlib.Core.Bool.{true, _||_, or-true}
+use mathlib.Core.List.{List}
+use mathlib.Core.Logic.{_↔_, _⊎_, ⊎-elim}
+use Prim.Native.Nat.{ℕ, suc, _≤_, _<_}
+use native.Mathlib.Omega.{arith}
+use borrow.Author.Tests.{lt-ltb}
+use lib.ListN.{length}
+use Rattle.common.specs.Answers as answer
+use Rattle.common.specs.Services.{isService}
+use Rattle.paper.specs.Abstract as paper
+use Rattle.paper.specs.RunLaws.{run-answers, run-words}
+use Rattle.paper.specs.Sound.{InOne, Sound, run-sound}
+use Rattle.paper.specs.Property as property
+use Rattle.rules.specs.Compartments.{numbers}
+use Rattle.rules.specs.State.{State}
+use Rattle.rules.specs.Checks.{verdict}
+use Rattle.rules.specs.Step.{step}
+use Rattle.rules.specs.Run.{Ran, run}
+use Rattle.rules.specs.Images.{sizeIn, entryIn, wordsOf, regsOf, load}
+use Rattle.rules.specs.Match.{Match, Inv}
+use Rattle.rules.specs.Start.{Accepted, words-are, accepted, loads, start-match, start-inv}
+use Rattle.rules.specs.Runs.{comps, Together, Wants65, Parted, Few, Many, Agreed, agreed, Step13, step-13, wanted}
+use Rattle.rules.specs.Changes.{Changes, Stored, changed}
+
+-- n steps of the tagged machine from what the loader left over the lent memories of `old`, whatever they held
+abbrev pub tagged : ℕ → List ℕ → State → Ran
+tagged n bytes old = run n (load bytes old .state)
+
+-- n steps of the abstract machine from the image's words, registers and entry
+abbrev pub start : List ℕ → paper.State
+start bytes = paper.initial (wordsOf bytes) (regsOf bytes) (entryIn bytes)
+
+abbrev pub abstract : ℕ → List ℕ → paper.Ran
+abstract n bytes = paper.run n (start bytes)
+
+-- how many compartments it has then
+abbrev pub compartments : ℕ → List ℕ → ℕ
+compartments n bytes = length (abstract n bytes .state .comps)
+
+module _ (bytes : List ℕ) (old : State) (ok : load bytes old .answer ≡ answer.done) where
+  -- ---- the start
+
+  -- what a 0 of the loader says of the image and of the lent memories
+  pub image-accepted : Accepted (wordsOf bytes) (entryIn bytes) old
+  image-accepted = accepted bytes old ok
+
+  -- N is what the image says
+  pub image-size : length (wordsOf bytes) ≡ sizeIn bytes
+  image-size = words-are bytes
+
+  -- the loader's state is the one that the abstract start stands for
+  pub start-matches : Match (load bytes old .state) (start bytes)
+  start-matches = subst (λ (s : State). Match s (start bytes)) (sym (loads bytes old ok)) (start-match (wordsOf bytes) (regsOf bytes) (entryIn bytes) old image-accepted)
+
+  pub start-keeps : Inv (load bytes old .state)
+  start-keeps = subst Inv (sym (loads bytes old ok)) (start-inv (wordsOf bytes) (regsOf bytes) (entryIn bytes) old image-accepted)
+
+  module _ (n : ℕ) where
+    either : Agreed n (load bytes old .state) (start bytes)
+    either = agreed n (load bytes old .state) (start bytes) start-matches start-keeps
+
+    -- ---- agreement
+
+    -- as long as there are no more than 64 compartments: answers, counts, words, registers, position and all sets
+    pub agreement : compartments n bytes ≤ numbers → Together (tagged n bytes old) (abstract n bytes)
+    agreement h =
+        ⊎-elim (λ (p : Few n (load bytes old .state) (start bytes)). p .1)
+        (λ (p : Many n (load bytes old .state) (start bytes)).
+        let k : numbers < compartments n bytes = p .0 in absurd (omega arith)) either
+
+    -- and where there are more: the tagged machine stopped with 13 when the abstract one made the 65th, and stands
+    -- where the abstract one stood then
+    pub parting : numbers < compartments n bytes → (j : ℕ) × Parted n j (load bytes old .state) (start bytes)
+    parting h =
+        ⊎-elim (λ (p : Few n (load bytes old .state) (start bytes)).
+        let k : compartments n bytes ≤ numbers = p .0 in absurd (omega arith))
+        (λ (p : Many n (load bytes old .state) (start bytes)). p .1) either
+
+    -- there is one parting
+    pub parting-once : (j k : ℕ) → Parted n j (load bytes old .state) (start bytes) → Parted n k (load bytes old .state) (start bytes) → j ≡ k
+    parting-once j k p q = sym (p .count) ∙ q .count
+
+    -- ---- 13
+
+    -- exactly where the abstract machine, all 64 numbers being used, makes another compartment
+    pub thirteen : (tagged n bytes old .answer ≡ answer.no-number) ↔ ((j : ℕ) × (j < n) × Wants65 j (start bytes))
+    thirteen = (to, from)
+      where
+        to : tagged n bytes old .answer ≡ answer.no-number → (j : ℕ) × (j < n) × Wants65 j (start bytes)
+        to h =
+            ⊎-elim (λ (p : Few n (load bytes old .state) (start bytes)). absurd (p .1 .not13 h))
+            (λ (p : Many n (load bytes old .state) (start bytes)).
+            (p .1 .0, p .1 .1 .sooner, p .1 .1 .wants)) either
+
+        from : (j : ℕ) × (j < n) × Wants65 j (start bytes) → tagged n bytes old .answer ≡ answer.no-number
+        from w = parting (wanted n (w .0) (start bytes) (w .1) (w .2)) .1 .stops
+
+    -- the step after n steps
+    pub step-thirteen : compartments n bytes ≤ numbers → (step (tagged n bytes old .state) .answer ≡ answer.no-number) ↔ Step13 (tagged n bytes old .state) (abstract n bytes .state)
+    step-thirteen h = let t = agreement h in step-13 (tagged n bytes old .state) (abstract n bytes .state) (t .match) (t .inv)
+
+    -- ---- no other number
+
+    -- 14 and 15 never arise
+    pub answers : tagged n bytes old .answer ≤ answer.no-number
+    answers =
+        ⊎-elim (λ (p : Few n (load bytes old .state) (start bytes)).
+        let e : tagged n bytes old .answer ≡ abstract n bytes .answer = p .1 .answers in
+        let h : abstract n bytes .answer ≤ 12 = run-answers n (start bytes) in
+        omega arith)
+        (λ (p : Many n (load bytes old .state) (start bytes)).
+        let e : tagged n bytes old .answer ≡ 13 = p .1 .1 .stops in
+        omega arith) either
+
+    pub abstract-answers : abstract n bytes .answer ≤ answer.no-return
+    abstract-answers = run-answers n (start bytes)
+
+    -- ---- words
+
+    -- n steps on, a step changes the word at x: a Store did it, in the one compartment that holds pc
+    pub words : (x : ℕ) → Changes (tagged n bytes old .state) x → Stored (tagged n bytes old .state) (abstract n bytes .state) x
+    unfolding step
+    words x d =
+        ⊎-elim (λ (p : Few n (load bytes old .state) (start bytes)).
+        changed (tagged n bytes old .state) (abstract n bytes .state) (p .1 .match) (p .1 .inv) x d)
+        (λ (p : Many n (load bytes old .state) (start bytes)).
+        let q = p .1 .1 in
+        let e : verdict (tagged n bytes old .state) ≡ 13 =
+        step-13 (tagged n bytes old .state) (abstract (p .1 .0) bytes .state) (q .match) (q .inv) .1 (q .full, q .wants .makes, q .wants .another ∙ ap suc (sym (q .wants .all))) in
+        absurd (d (simp e))) either
+
+    -- ---- the paper's property
+
+    sound : Sound (abstract n bytes .state)
+    sound = run-sound (wordsOf bytes) (regsOf bytes) (entryIn bytes) (image-accepted .most) n
+
+    -- each address in memory, and each service, lies in one compartment and in no other
+    pub one-compartment : (x : ℕ) → (x < sizeIn bytes) ⊎ (isService x ≡ true) → InOne (abstract n bytes .state .comps) x
+    unfolding paper.inMemory paper.initial
+    one-compartment x h =
+        let l : length (abstract n bytes .state .words) ≡ sizeIn bytes = run-words n (start bytes) ∙ words-are bytes in
+        sound .one x
+        (⊎-elim (λ (e : x < sizeIn bytes). simp (l, lt-ltb x (sizeIn bytes) e)) (λ (e : isService x ≡ true). simp (e, or-true)) h)
+
+    -- a step that runs leaves pc in its compartment or at one of its jump targets, or the next step stops with 2 or 4
+    pub leaving : paper.step (abstract n bytes .state) .answer ≡ answer.done → property.Leaves (abstract n bytes .state)
+    leaving h = property.leaves (abstract n bytes .state) sound h
+
+    -- (b) of the abstract machine by itself, also where the tagged one has stopped
+    pub changing : (x : ℕ) → property.Changes (abstract n bytes .state) x
+        → (paper.A-of (abstract n bytes .state) (paper.current (abstract n bytes .state)) x || paper.S-of (abstract n bytes .state) (paper.current (abstract n bytes .state)) x) ≡ true
+    changing x d = property.changes (abstract n bytes .state) x d

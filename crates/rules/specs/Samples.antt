@@ -1,0 +1,81 @@
+-- The sheet's two images and 60 isolates on both machines, by computation.
+use mathlib.Core.Path.{_≡_, refl}
+use mathlib.Core.Bool.{true}
+use mathlib.Core.List.{List, [], _∷_}
+use Prim.Native.Nat.{ℕ}
+use lib.ListN.{replicate, length}
+use Rattle.common.specs.Answers as answer
+use Rattle.common.specs.Words.{row, allowed, decode}
+use Rattle.common.specs.Instructions.{arithmetic, offset, displaced, branch, pcAfter, regsAfter, wordsAfter, jumps}
+use Rattle.common.specs.Services.{isolate, serviceCount, isService, serviceAt, isServiceNumber}
+use Rattle.common.specs.AddressSets.{pairsAt, setAt, inside, ordered, goodSet, isEmpty, inSet, allFrom, within}
+use Rattle.paper.specs.Abstract as paper
+use Rattle.rules.specs.Compartments.{member, insert, services, main}
+use Rattle.rules.specs.State.{State, firstNumber, inMemory, hasOwner, ownerAt, jumpersAt, writersAt, owns, mayJump, mayStore}
+use Rattle.rules.specs.Checks as checks
+use Rattle.rules.specs.Step as step
+use Rattle.rules.specs.Run.{Ran, run}
+use Rattle.rules.specs.Images.{field, fields, entryVerdict, lastListed, registersVerdict, imageVerdict, blank, loaded, notLoaded, loadVerdict, load, allBytes, section, listed, imageBytes}
+use Rattle.rules.specs.SheetImages.{image-one, image-two}
+use Rattle.rules.specs.Agreement.{tagged, abstract}
+
+-- a loop that isolates the words from 20 on, one after the other: r1 points at a set of one address, which the loop moves on
+abbrev pub image-many : List ℕ
+image-many =
+    0x01100010 ∷ 0x01200013 ∷ 0x01300013 ∷ 0x01401000 ∷ 0x01600001 ∷ 0x01700011 ∷ 0x01800012 ∷ 0x01900008 ∷ 0x0B400000 ∷ 0x087A0000 ∷ 0x03A6000A
+    ∷ 0x097A0000 ∷ 0x088A0000 ∷ 0x03A6000A ∷ 0x098A0000 ∷ 0x0A900000 ∷ 1 ∷ 20 ∷ 21 ∷ 0 ∷ replicate 62 0
+
+-- no registers, entry 0
+abbrev bytes : List ℕ → List ℕ
+bytes words = imageBytes words (replicate 16 0) 0
+
+-- memories longer than N, with something in them
+abbrev lent : State
+lent =
+    record {
+      cpu = record { n = 9; regs = []; pc = 9; prev = 9; jumped = true; next = 9; services = [] };
+      words = replicate 90 0x0D000000;
+      owners = replicate 90 6;
+      jumpers = replicate 90 7;
+      writers = replicate 90 8;
+    }
+
+-- where a run stands: answer, count, pc, previous compartment, compartments
+unfoldable pub seen : Ran → List ℕ
+seen r = r .answer ∷ r .count ∷ r .state .cpu .pc ∷ r .state .cpu .prev ∷ r .state .cpu .next ∷ []
+
+unfoldable pub paperSeen : paper.Ran → List ℕ
+paperSeen r = r .answer ∷ r .count ∷ r .state .pc ∷ r .state .prev ∷ length (r .state .comps) ∷ []
+
+pub record Stands (budget : ℕ) (words : List ℕ) (here there : List ℕ) : Type 0 where
+  pub loads : load (bytes words) lent .answer ≡ answer.done
+  pub on-tags : seen (tagged budget (bytes words) lent) ≡ here
+  pub on-sets : paperSeen (abstract budget (bytes words)) ≡ there
+
+abbrev three : List ℕ
+three = answer.no-instruction ∷ 3 ∷ 3 ∷ 0 ∷ 4 ∷ []
+
+abbrev seven : List ℕ
+seven = answer.store-forbidden ∷ 7 ∷ 6 ∷ 0 ∷ 5 ∷ []
+
+-- all 64 compartments are there, and pc is at isolate again
+abbrev sixty : List ℕ
+sixty = answer.done ∷ 549 ∷ isolate ∷ 0 ∷ 64 ∷ []
+
+pub record Samples : Type 0 where
+  pub one : Stands 100000 image-one three three
+  pub two : Stands 100000 image-two seven seven
+  -- "From an image, 60 isolates can run"
+  pub many : Stands 549 image-many sixty sixty
+  -- at the next step the machines part: 13 here, and a 65th compartment there
+  pub parts : Stands 550 image-many (answer.no-number ∷ 549 ∷ isolate ∷ 0 ∷ 64 ∷ []) (answer.done ∷ 550 ∷ 9 ∷ 1 ∷ 65 ∷ [])
+
+pub samples : Samples
+unfolding seen paperSeen row allowed decode arithmetic offset displaced branch pcAfter regsAfter wordsAfter jumps serviceCount isService serviceAt isServiceNumber pairsAt setAt inside ordered goodSet isEmpty inSet allFrom within member insert services main firstNumber inMemory hasOwner ownerAt jumpersAt writersAt owns mayJump mayStore checks.sameLengths checks.sized checks.numbered checks.seated checks.formed checks.badOwner checks.arrives checks.instructionAt checks.storeVerdict checks.instructionVerdict checks.wordVerdict checks.goodSets checks.setsWithin checks.returns checks.isolateVerdict checks.addVerdict checks.serviceVerdict checks.verdict step.ranInstruction step.mapFrom step.owned step.joined step.joinedServices step.isolated step.jumpAdded step.storeAdded step.ranService step.commit step.step run field fields entryVerdict lastListed registersVerdict imageVerdict blank loaded notLoaded loadVerdict load allBytes section listed imageBytes paper.inMemory paper.serviceComps paper.initialComps paper.initial paper.holder paper.arrives paper.instructionAt paper.storeVerdict paper.instructionVerdict paper.wordVerdict paper.ranInstruction paper.goodSets paper.setsWithin paper.returns paper.isolateVerdict paper.addVerdict paper.serviceVerdict paper.isolated paper.jumpAdded paper.storeAdded paper.ranService paper.verdict paper.commit paper.step paper.run
+samples =
+    record {
+      one = record { loads = refl; on-tags = refl; on-sets = refl };
+      two = record { loads = refl; on-tags = refl; on-sets = refl };
+      many = record { loads = refl; on-tags = refl; on-sets = refl };
+      parts = record { loads = refl; on-tags = refl; on-sets = refl };
+    }

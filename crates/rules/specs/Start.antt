@@ -1,0 +1,231 @@
+-- What an accepted image leaves: the loader's state matches the abstract machine's start.
+use mathlib.Core.Path.{_≡_, refl, sym, ap, _∙_}
+use mathlib.Core.Bool.{Bool, true, false, _&&_, and-false, and-true}
+use mathlib.Core.List.{List}
+use Prim.Native.Nat.{ℕ, zero, suc, _+_, _-_, _≤_, _<_}
+use native.Mathlib.Omega.{arith}
+use borrow.Author.Tests.{ltb-true, leb-true, eqb-true, le-leb, lt-ltb, le-ltb, eq-eqb, ne-eqb}
+use lib.Dec.{ltb, leb, eqb}
+use lib.ListN.{getD, length, drop, replicate, length-append, length-drop, length-replicate, getD-replicate, List·getD-append}
+use lib.Seq.{take-append-seam}
+use Rattle.common.specs.Answers as answer
+use Rattle.common.specs.Services.{isolate, serviceCount, isService, serviceAt, isServiceNumber}
+use Rattle.common.specs.ServiceLaws.{service-range}
+use Rattle.common.specs.Tests.{both, bool-ext}
+use Rattle.common.specs.CheckLaws.{took}
+use Rattle.paper.specs.Abstract as paper
+use Rattle.paper.specs.CompLaws.{service-comps, at-service}
+use Rattle.rules.specs.Compartments.{member, empty, services, main}
+use Rattle.rules.specs.CompartmentLaws.{member-empty, member-services, member-main}
+use Rattle.rules.specs.State.{State, firstNumber, inMemory, hasOwner, ownerAt, jumpersAt, writersAt, owns, mayJump, mayStore}
+use Rattle.rules.specs.Checks.{sameLengths}
+use Rattle.rules.specs.Images.{field, fields, whole, sizeIn, registersIn, entryIn, entryAt, registersAt, entryVerdict, lastListed, registersVerdict, imageVerdict, wordsOf, regsOf, over, loaded, loadVerdict, load}
+use Rattle.rules.specs.Match.{Match, Inv}
+
+-- ---- what a loader's 0 says
+
+pub record Accepted (words : List ℕ) (entry : ℕ) (old : State) : Type 0 where
+  pub some : 1 ≤ length words
+  pub most : length words ≤ 2048
+  pub entered : entry < length words
+  pub lent : length words ≤ length (old .words)
+  pub owners : length (old .owners) ≡ length (old .words)
+  pub jumpers : length (old .jumpers) ≡ length (old .words)
+  pub writers : length (old .writers) ≡ length (old .words)
+
+fields-length : (bytes : List ℕ) (k p : ℕ) → length (fields bytes p k) ≡ k
+unfolding fields
+fields-length bytes zero p = refl
+fields-length bytes (suc k) p = ap suc (fields-length bytes k (p + 4))
+
+pub words-are : (bytes : List ℕ) → length (wordsOf bytes) ≡ sizeIn bytes
+words-are bytes = fields-length bytes (sizeIn bytes) 4
+
+module _ (bytes : List ℕ) (old : State) (ok : load bytes old .answer ≡ answer.done) where
+  pub accepted : Accepted (wordsOf bytes) (entryIn bytes) old
+  unfolding load loadVerdict imageVerdict registersVerdict entryVerdict sameLengths
+  accepted =
+      let a = took (sameLengths old) _ 26 ok in
+      let b = took (whole bytes 0 1) _ 19 (a .1) in
+      let c = took (leb 1 (sizeIn bytes) && leb (sizeIn bytes) 2048) _ 20 (b .1) in
+      let d = took (leb (sizeIn bytes) (length (old .words))) _ 27 (c .1) in
+      let e = took (whole bytes 4 (sizeIn bytes)) _ 19 (d .1) in
+      let f = took (whole bytes (registersAt bytes) 1) _ 19 (e .1) in
+      let g = took (leb (registersIn bytes) 16) _ 21 (f .1) in
+      let h = took (whole bytes (registersAt bytes + 4) (registersIn bytes)) _ 19 (g .1) in
+      let i = took (lastListed bytes) _ 22 (h .1) in
+      let j = took (whole bytes (entryAt bytes) 1) _ 19 (i .1) in
+      let k = took (eqb (field bytes (entryAt bytes)) 1) _ 23 (j .1) in
+      let l = took (whole bytes (entryAt bytes) 2) _ 19 (k .1) in
+      let m = took (ltb (entryIn bytes) (sizeIn bytes)) _ 24 (l .1) in
+      let n : length (wordsOf bytes) ≡ sizeIn bytes = words-are bytes in
+      let sizes = both _ _ (c .0) in
+      let lengths = both _ _ (a .0) in
+      let two = both _ _ (lengths .0) in
+      record {
+        some = rw n (leb-true _ _ (sizes .0));
+        most = rw n (leb-true _ _ (sizes .1));
+        entered = rw n (ltb-true _ _ (m .0));
+        lent = rw n (leb-true _ _ (d .0));
+        owners = eqb-true _ _ (two .0);
+        jumpers = eqb-true _ _ (two .1);
+        writers = eqb-true _ _ (lengths .1);
+      }
+
+  pub loads : load bytes old .state ≡ loaded (wordsOf bytes) (regsOf bytes) (entryIn bytes) old
+  unfolding load
+  loads = simp (eq-eqb _ _ ok)
+
+-- ---- memories filled by the loader
+
+filled : (n v : ℕ) (old : List ℕ) (x : ℕ) → x < n → getD (over (replicate n v) old) x 0 ≡ v
+filled n v old x h =
+    List·getD-append (replicate n v) (drop (length (replicate n v)) old) 0 x (rw length-replicate h) ∙ getD-replicate n x v 0 h
+
+over-length : (front old : List ℕ) → length front ≤ length old → length (over front old) ≡ length old
+over-length front old h = length-append front (drop (length front) old) ∙ simp length-drop (omega arith)
+
+filled-length : (n v : ℕ) (old : List ℕ) → n ≤ length old → length (over (replicate n v) old) ≡ length old
+filled-length n v old h = over-length (replicate n v) old (rw length-replicate h)
+
+-- ---- the services at the start
+
+-- no service is owned by 0, and the j-th is owned by suc j
+not-main : (x : ℕ) → (isService x && eqb (serviceAt x) 0) ≡ false
+unfolding serviceAt
+not-main x = go (isService x) refl
+  where
+    go : (b : Bool) → isService x ≡ b → (b && eqb (serviceAt x) 0) ≡ false
+    go true e = let r : (isolate ≤ x) × (x < isolate + serviceCount) = service-range x e in ne-eqb (x - 4095) 0 (λ q. omega arith)
+    go false e = refl
+
+same-service : (x j : ℕ) → (ltb j serviceCount && eqb x (isolate + j)) ≡ (isService x && eqb (serviceAt x) (suc j))
+unfolding serviceAt isService
+same-service x j =
+    bool-ext (ltb j serviceCount && eqb x (isolate + j)) (isService x && eqb (x - 4095) (suc j))
+    (λ h. let t = both (ltb j serviceCount) (eqb x (isolate + j)) h in
+    let l : j < serviceCount = ltb-true _ _ (t .0) in
+    let e : x ≡ isolate + j = eqb-true _ _ (t .1) in
+    simp (le-leb isolate x (omega arith), lt-ltb x (isolate + serviceCount) (omega arith), eq-eqb (x - 4095) (suc j) (omega arith)))
+    (λ h. let t = both (isService x) (eqb (x - 4095) (suc j)) h in
+    let r : (isolate ≤ x) × (x < isolate + serviceCount) = service-range x (t .0) in
+    let e : x - 4095 ≡ suc j = eqb-true _ _ (t .1) in
+    simp (lt-ltb j serviceCount (omega arith), eq-eqb x (isolate + j) (omega arith)))
+
+-- {1, 2, 3}
+services-are : (j : ℕ) → member services (suc j) ≡ ltb j serviceCount
+unfolding serviceCount
+services-are zero = member-services 1
+services-are (suc zero) = member-services 2
+services-are (suc (suc zero)) = member-services 3
+services-are (suc (suc (suc j))) =
+    let x : ℕ = suc (suc (suc (suc j))) in
+    member-services x ∙ simp (ne-eqb x 1 (λ e. omega arith), ne-eqb x 2 (λ e. omega arith), ne-eqb x 3 (λ e. omega arith))
+    (sym (le-ltb (suc (suc (suc j))) 3 (omega arith)))
+
+-- each service's set is {0}
+main-there : (x : ℕ) → isService x ≡ true → getD (replicate serviceCount main) (x - isolate) empty ≡ main
+main-there x f =
+    let r : (isolate ≤ x) × (x < isolate + serviceCount) = service-range x f in
+    getD-replicate serviceCount (x - isolate) main empty (omega arith)
+
+-- ---- the start
+
+module _ (words regs : List ℕ) (entry : ℕ) (old : State) (ok : Accepted words entry old) where
+  abbrev start : State
+  start = loaded words regs entry old
+
+  abbrev n : ℕ
+  n = length words
+
+  no-service : (x : ℕ) → x < n → isService x ≡ false
+  no-service x h = go (isService x) refl
+    where
+      go : (b : Bool) → isService x ≡ b → isService x ≡ false
+      go false e = e
+      go true e =
+          let m : n ≤ 2048 = ok .most in
+          let r : (isolate ≤ x) × (x < isolate + serviceCount) = service-range x e in
+          absurd (omega arith)
+
+  start-A : (c x : ℕ) → paper.comp (paper.initialComps n) c .A x ≡ owns start c x
+  unfolding paper.initialComps owns hasOwner ownerAt inMemory loaded
+  start-A c x = go (ltb x n) refl c
+    where
+      go : (b : Bool) → ltb x n ≡ b → (c : ℕ) → paper.comp (paper.initialComps n) c .A x ≡ owns start c x
+      go true e zero = simp (e, filled n 0 (old .owners) x (ltb-true _ _ e))
+      go true e (suc j) =
+          let l : x < n = ltb-true _ _ e in
+          let m : n ≤ 2048 = ok .most in
+          at-service n j (λ k. k .A x) refl
+          ∙ simp (ne-eqb x (isolate + j) (λ q. omega arith), and-false, e, filled n 0 (old .owners) x l)
+          (sym (ne-eqb 0 (suc j) (λ z. omega arith)))
+      go false e zero = simp e (sym (not-main x))
+      go false e (suc j) = at-service n j (λ k. k .A x) refl ∙ simp e (same-service x j)
+
+  start-J : (c x : ℕ) → paper.comp (paper.initialComps n) c .J x ≡ mayJump start c x
+  unfolding paper.initialComps mayJump jumpersAt inMemory loaded
+  start-J c x = go (ltb x n) (isService x) refl refl c
+    where
+      go : (b p : Bool) → ltb x n ≡ b → isService x ≡ p → (c : ℕ) → paper.comp (paper.initialComps n) c .J x ≡ mayJump start c x
+      go true p e f zero =
+          simp (e, no-service x (ltb-true _ _ e), filled n services (old .jumpers) x (ltb-true _ _ e), member-services)
+      go true p e f (suc j) =
+          at-service n j (λ k. k .J x) refl
+          ∙ simp (e, and-true, filled n services (old .jumpers) x (ltb-true _ _ e)) (sym (services-are j))
+      go false true e f zero = simp (e, f, main-there x f, member-main)
+      go false true e f (suc j) =
+          at-service n j (λ k. k .J x) refl ∙ simp (e, f, and-false, main-there x f) (sym (member-main (suc j) ∙ ne-eqb (suc j) 0 (λ z. omega arith)))
+      go false false e f zero = simp (e, f, member-empty)
+      go false false e f (suc j) = at-service n j (λ k. k .J x) refl ∙ simp (e, f, and-false) (sym (member-empty (suc j)))
+
+  start-S : (c x : ℕ) → paper.comp (paper.initialComps n) c .S x ≡ mayStore start c x
+  unfolding paper.initialComps mayStore writersAt inMemory loaded
+  start-S c x = none c ∙ sym (go (ltb x n) refl)
+    where
+      none : (c : ℕ) → paper.comp (paper.initialComps n) c .S x ≡ false
+      none zero = refl
+      none (suc j) = at-service n j (λ k. k .S x) refl ∙ and-false (ltb j serviceCount)
+
+      go : (b : Bool) → ltb x n ≡ b → mayStore start c x ≡ false
+      go true e = simp (e, filled n empty (old .writers) x (ltb-true _ _ e), member-empty)
+      go false e = simp (e, member-empty)
+
+  pub start-match : Match start (paper.initial words regs entry)
+  unfolding loaded paper.initial paper.initialComps firstNumber
+  start-match =
+      record {
+        words = sym (take-append-seam words (drop n (old .words)));
+        regs = refl;
+        pc = refl;
+        prev = refl;
+        jumped = refl;
+        count = ap suc (service-comps n 0 serviceCount);
+        A = start-A;
+        J = start-J;
+        S = start-S;
+      }
+
+  pub start-inv : Inv start
+  unfolding loaded inMemory isServiceNumber firstNumber serviceCount
+  start-inv =
+      let h : n ≤ length (old .words) = ok .lent in
+      let o : length (old .owners) ≡ length (old .words) = ok .owners in
+      let j : length (old .jumpers) ≡ length (old .words) = ok .jumpers in
+      let r : length (old .writers) ≡ length (old .words) = ok .writers in
+      let w : length (over words (old .words)) ≡ length (old .words) = over-length words (old .words) h in
+      record {
+        owners = filled-length n 0 (old .owners) (omega arith) ∙ o ∙ sym w;
+        jumpers = filled-length n services (old .jumpers) (omega arith) ∙ j ∙ sym w;
+        writers = filled-length n empty (old .writers) (omega arith) ∙ r ∙ sym w;
+        some = ok .some;
+        most = ok .most;
+        lent = omega arith;
+        sets = refl;
+        low = omega arith;
+        high = omega arith;
+        prev = omega arith;
+        caller = λ z. refl;
+        owner = λ x l. let g : getD (over (replicate n 0) (old .owners)) x 0 ≡ 0 = filled n 0 (old .owners) x l in
+            (ap isServiceNumber g, omega arith);
+      }

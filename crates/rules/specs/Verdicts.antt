@@ -1,0 +1,205 @@
+-- The answers of two states that match: the same, but for a 13 where the abstract machine makes a 65th compartment.
+use mathlib.Core.Path.{_≡_, refl, sym, ap, _∙_, subst, fun-ext}
+use mathlib.Core.Bool.{Bool, true, false, cond, _&&_, and-false}
+use mathlib.Core.List.{List}
+use Prim.Native.Nat.{ℕ, suc, _+_, _≤_, _<_}
+use native.Mathlib.Omega.{arith}
+use borrow.Author.Tests.{ltb-true, le-leb, lt-leb, lt-ltb, le-ltb, eq-eqb, ne-eqb}
+use lib.Dec.{ltb, eqb}
+use lib.ListN.{getD, length, take}
+use lib.Seq.{getD-take, length-take-le}
+use Rattle.common.specs.Answers as answer
+use Rattle.common.specs.Words.{Decoded, decode}
+use Rattle.common.specs.Services.{isolate, serviceCount, isService, serviceAt, isServiceNumber}
+use Rattle.common.specs.ServiceLaws.{service-range, service-small}
+use Rattle.common.specs.AddressSets.{isEmpty}
+use Rattle.common.specs.AddressSetLaws.{good-take, good-set-take}
+use Rattle.common.specs.Tests.{both}
+use Rattle.paper.specs.Abstract as paper
+use Rattle.paper.specs.CompLaws.{holder-is}
+use Rattle.rules.specs.Compartments.{numbers}
+use Rattle.rules.specs.State.{State, firstNumber, inMemory, hasOwner, ownerAt, owns}
+use Rattle.rules.specs.Checks.{sameLengths, sized, numbered, seated, formed, badOwner, arrives, instructionAt, storeVerdict, instructionVerdict, wordVerdict, setA, setJ, setS, goodSets, setsWithin, returns, isolateVerdict, addVerdict, serviceVerdict, verdict}
+use Rattle.rules.specs.Match.{Match, Inv, shadow}
+
+-- ---- what Inv keeps answers neither 14 nor 15
+
+module _ (s : State) (inv : Inv s) where
+  no-service-calls : (isServiceNumber (s .cpu .prev) && isService (s .cpu .pc)) ≡ false
+  unfolding inMemory
+  no-service-calls = go (isService (s .cpu .pc)) refl
+    where
+      go : (b : Bool) → isService (s .cpu .pc) ≡ b → (isServiceNumber (s .cpu .prev) && isService (s .cpu .pc)) ≡ false
+      go true e =
+          let r : (isolate ≤ s .cpu .pc) × (s .cpu .pc < isolate + serviceCount) = service-range (s .cpu .pc) e in
+          let k : s .cpu .n ≤ 2048 = inv .most in
+          simp (inv .caller (le-ltb (s .cpu .pc) (s .cpu .n) (omega arith)))
+      go false e = simp (e, and-false)
+
+  pub formed-is : formed s ≡ true
+  unfolding sameLengths sized numbered seated formed
+  formed-is =
+      simp (
+        eq-eqb _ _ (inv .owners),
+        eq-eqb _ _ (inv .jumpers),
+        eq-eqb _ _ (inv .writers),
+        le-leb _ _ (inv .some),
+        le-leb _ _ (inv .most),
+        le-leb _ _ (inv .lent),
+        le-leb _ _ (inv .low),
+        le-leb _ _ (inv .high),
+        lt-ltb _ _ (inv .prev),
+        no-service-calls,
+      )
+
+  pub owner-good : badOwner s ≡ false
+  unfolding badOwner ownerAt inMemory
+  owner-good = go (inMemory s (s .cpu .pc)) refl
+    where
+      go : (b : Bool) → inMemory s (s .cpu .pc) ≡ b → badOwner s ≡ false
+      go true e =
+          let w = inv .owner (s .cpu .pc) (ltb-true _ _ e) in
+          simp (e, w .0, lt-leb (s .cpu .next) (getD (s .owners) (s .cpu .pc) 0) (w .1))
+      go false e = simp e
+
+  pub owner-low : (x : ℕ) → hasOwner s x ≡ true → ownerAt s x < s .cpu .next
+  unfolding hasOwner ownerAt inMemory firstNumber
+  owner-low x h = go (inMemory s x) refl
+    where
+      go : (b : Bool) → inMemory s x ≡ b → cond b (getD (s .owners) x 0) (serviceAt x) < s .cpu .next
+      go true e = inv .owner x (ltb-true _ _ e) .1
+      go false e =
+          let v : isService x ≡ true = simp e at h in
+          let l : serviceAt x ≤ serviceCount = service-small x v in
+          let k : suc serviceCount ≤ s .cpu .next = inv .low in
+          omega arith
+
+-- ---- what the tagged machine answers where the abstract one answers v
+
+abbrev pub parted : Bool → ℕ → ℕ
+parted full v = cond (eqb v answer.done && full) answer.no-number v
+
+parted-none : (v : ℕ) → parted false v ≡ v
+parted-none v = simp and-false
+
+isolate-cases : (b c d e : Bool)
+    → _≡_ {A = ℕ} (cond b answer.empty-set (cond c (cond d (cond e answer.no-number answer.done) answer.no-return) answer.not-within))
+    (parted e (cond b answer.empty-set (cond c (cond d answer.done answer.no-return) answer.not-within)))
+isolate-cases true c d e = refl
+isolate-cases false false d e = refl
+isolate-cases false true false e = refl
+isolate-cases false true true true = refl
+isolate-cases false true true false = refl
+
+-- at isolate, with all numbers used
+abbrev pub last : State → Bool
+last s = eqb (s .cpu .pc) isolate && eqb (s .cpu .next) numbers
+
+module _ (s : State) (C : List paper.Comp) (m : Match s (shadow s C)) (inv : Inv s) where
+  abbrev a : paper.State
+  a = shadow s C
+
+  length-is : length (take (s .cpu .n) (s .words)) ≡ s .cpu .n
+  length-is = length-take-le (s .cpu .n) (s .words) (inv .lent)
+
+  pub memory-is : (x : ℕ) → paper.inMemory a x ≡ inMemory s x
+  unfolding paper.inMemory inMemory
+  memory-is x = ap (λ (n : ℕ). ltb x n) length-is
+
+  pub current-is : hasOwner s (s .cpu .pc) ≡ true → paper.holder C (s .cpu .pc) ≡ ownerAt s (s .cpu .pc)
+  unfolding owns
+  current-is h =
+      holder-is C (s .cpu .pc) (ownerAt s (s .cpu .pc)) (λ c. m .A c (s .cpu .pc) ∙ ap (λ (b : Bool). b && eqb (ownerAt s (s .cpu .pc)) c) h)
+      (subst (λ (n : ℕ). ownerAt s (s .cpu .pc) < n) (sym (m .count)) (owner-low s inv (s .cpu .pc) h))
+
+  arrives-is : hasOwner s (s .cpu .pc) ≡ true → paper.arrives a ≡ arrives s
+  unfolding paper.arrives arrives
+  arrives-is h = simp (current-is h, m .count, lt-ltb _ _ (owner-low s inv (s .cpu .pc) h), m .J)
+
+  instruction-is : (c : ℕ) (i : Decoded) → paper.wordVerdict a c i ≡ wordVerdict s c i
+  unfolding paper.wordVerdict paper.instructionVerdict paper.storeVerdict wordVerdict instructionVerdict storeVerdict
+  instruction-is c i = simp (memory-is, m .A, m .S)
+
+  pub word-is : inMemory s (s .cpu .pc) ≡ true → paper.instructionAt a ≡ instructionAt s
+  unfolding paper.instructionAt instructionAt inMemory
+  word-is h = ap decode (getD-take (s .cpu .n) (s .words) (s .cpu .pc) 0 (ltb-true _ _ h))
+
+  add-is : (c : ℕ) → paper.addVerdict a c ≡ addVerdict s c
+  unfolding paper.addVerdict addVerdict
+  add-is c = simp (m .A)
+
+  good-is : paper.goodSets a ≡ goodSets s
+  unfolding paper.goodSets goodSets
+  good-is = simp (length-is, good-take)
+
+  pub record SetsRead : Type 0 where
+    pub A : paper.setA a ≡ setA s
+    pub J : paper.setJ a ≡ setJ s
+    pub S : paper.setS a ≡ setS s
+
+  pub sets-read : goodSets s ≡ true → SetsRead
+  unfolding goodSets
+  sets-read h =
+      let t = both _ _ h in
+      let u = both _ _ (t .0) in
+      record { A = good-set-take _ _ _ (u .0); J = good-set-take _ _ _ (u .1); S = good-set-take _ _ _ (t .1) }
+
+  within-is : SetsRead → (c : ℕ) → paper.setsWithin a c ≡ setsWithin s c
+  unfolding paper.setsWithin setsWithin
+  within-is r c =
+      let e : paper.comp C c .A ≡ owns s c = fun-ext (m .A c) in
+      simp (r .A, r .J, r .S, e, m .A, m .J, m .S)
+
+  returns-is : SetsRead → (c : ℕ) → paper.returns a c ≡ returns s c
+  unfolding paper.returns returns
+  returns-is r c = simp (r .A, memory-is, m .A)
+
+  isolate-is : (c : ℕ) → isolateVerdict s c ≡ parted (eqb (s .cpu .next) numbers) (paper.isolateVerdict a c)
+  unfolding paper.isolateVerdict isolateVerdict
+  isolate-is c = go (goodSets s) refl
+    where
+      go : (b : Bool) → goodSets s ≡ b → isolateVerdict s c ≡ parted (eqb (s .cpu .next) numbers) (paper.isolateVerdict a c)
+      go true e =
+          let r = sets-read e in
+          simp (good-is, e, r .A, within-is r c, returns-is r c) (isolate-cases (isEmpty (setA s)) (setsWithin s c) (returns s c) (eqb (s .cpu .next) numbers))
+      go false e = simp (good-is, e)
+
+  service-is : (c : ℕ) → serviceVerdict s c ≡ parted (last s) (paper.serviceVerdict a c)
+  unfolding paper.serviceVerdict serviceVerdict
+  service-is c = go (eqb (s .cpu .pc) isolate)
+    where
+      go : (b : Bool) → cond b (isolateVerdict s c) (addVerdict s c) ≡ parted (b && eqb (s .cpu .next) numbers) (cond b (paper.isolateVerdict a c) (paper.addVerdict a c))
+      go true = isolate-is c
+      go false = sym (add-is c) ∙ sym (parted-none (paper.addVerdict a c))
+
+  pub verdict-is : verdict s ≡ parted (last s) (paper.verdict a)
+  unfolding verdict paper.verdict hasOwner inMemory
+  verdict-is = go (inMemory s (s .cpu .pc)) (isService (s .cpu .pc)) (arrives s) refl refl refl
+    where
+      there : inMemory s (s .cpu .pc) ≡ true → arrives s ≡ true → verdict s ≡ parted (last s) (paper.verdict a)
+      there e g =
+          let k : paper.inMemory a (s .cpu .pc) ≡ true = memory-is (s .cpu .pc) ∙ e in
+          let h : hasOwner s (s .cpu .pc) ≡ true = simp e in
+          let l : s .cpu .pc < s .cpu .n = ltb-true _ _ e in
+          let u : s .cpu .n ≤ 2048 = inv .most in
+          let ne : eqb (s .cpu .pc) isolate ≡ false = ne-eqb (s .cpu .pc) isolate (λ q. omega arith) in
+          simp (formed-is s inv, owner-good s inv, k, e, arrives-is h, g, current-is h, word-is e, instruction-is, ne)
+          (sym (parted-none (wordVerdict s (ownerAt s (s .cpu .pc)) (instructionAt s))))
+
+      go : (b c d : Bool) → inMemory s (s .cpu .pc) ≡ b → isService (s .cpu .pc) ≡ c → arrives s ≡ d → verdict s ≡ parted (last s) (paper.verdict a)
+      go true c false e f g =
+          let k : paper.inMemory a (s .cpu .pc) ≡ true = memory-is (s .cpu .pc) ∙ e in
+          let h : hasOwner s (s .cpu .pc) ≡ true = simp e in
+          simp (formed-is s inv, owner-good s inv, k, e, arrives-is h, g)
+      go true c true e f g = there e g
+      go false true false e f g =
+          let k : paper.inMemory a (s .cpu .pc) ≡ false = memory-is (s .cpu .pc) ∙ e in
+          let h : hasOwner s (s .cpu .pc) ≡ true = simp (e, f) in
+          simp (formed-is s inv, owner-good s inv, k, e, f, arrives-is h, g)
+      go false true true e f g =
+          let k : paper.inMemory a (s .cpu .pc) ≡ false = memory-is (s .cpu .pc) ∙ e in
+          let h : hasOwner s (s .cpu .pc) ≡ true = simp (e, f) in
+          simp (formed-is s inv, owner-good s inv, k, e, f, arrives-is h, g) (service-is (s .cpu .prev))
+      go false false d e f g =
+          let k : paper.inMemory a (s .cpu .pc) ≡ false = memory-is (s .cpu .pc) ∙ e in
+          simp (formed-is s inv, k, e, f)
