@@ -1,0 +1,270 @@
+/* The checker of the host test: makes a call on both sides, compares every field and every place, keeps counts, and
+   reports the first difference in full. */
+#include "compare.h"
+
+#include <inttypes.h>
+#include <stdio.h>
+#include <stdlib.h>
+#include <string.h>
+
+enum { ANSWERS = 32, LISTED = 40 };
+#define ALONE SIZE_MAX /* the place of a value that is not one of many */
+
+static struct {
+    const char *kind;
+    uint64_t seed, kind_number, number; /* of the case under way */
+    uint64_t cases, all_cases;
+    uint64_t by_answer[ANSWERS];
+} now;
+
+void begin_kind(const char *name, uint64_t seed)
+{
+    now.kind = name;
+    now.seed = seed;
+    now.kind_number++;
+    now.cases = 0;
+    memset(now.by_answer, 0, sizeof now.by_answer);
+    begin_case(0);
+}
+
+void begin_case(uint64_t number)
+{
+    now.number = number;
+    throw_dice(now.seed, now.kind_number, number);
+}
+
+uint64_t end_kind(void)
+{
+    printf("%-9s %10" PRIu64 " cases; answers", now.kind, now.cases);
+    for (int a = 0; a < ANSWERS; a++)
+        if (now.by_answer[a] != 0) printf(" %d:%" PRIu64, a, now.by_answer[a]);
+    printf("\n");
+    fflush(stdout);
+    return now.cases;
+}
+
+static void count_case(uint32_t answer)
+{
+    now.cases++;
+    now.all_cases++;
+    if (answer < ANSWERS) now.by_answer[answer]++;
+}
+
+/* ---- the report ---- */
+
+static void begin_report(const char *call)
+{
+    fflush(stdout);
+    printf("\ncompare: DIFFERENCE in kind '%s', case %" PRIu64 ", in the call %s\n", now.kind, now.number, call);
+}
+
+static void end_report(void)
+{
+    printf("to repeat: compare/run.sh %" PRIu64 " %" PRIu64 " (a larger count meets it too)\n", now.seed,
+           now.number + 1);
+    printf("compare: %" PRIu64 " cases, 1 difference\n", now.all_cases);
+    exit(1);
+}
+
+/* Prints one value where the sides differ, with its place where it has one; only the first LISTED of a report. */
+static void show(const char *what, size_t place, uint64_t ours, uint64_t sheet)
+{
+    static unsigned shown;
+    if (ours == sheet || shown++ >= LISTED) return;
+    printf("  %s", what);
+    if (place != ALONE) printf(" %zu", place);
+    printf(": library %" PRIu64 " (0x%" PRIX64 "), sheet %" PRIu64 " (0x%" PRIX64 ")\n", ours, ours, sheet, sheet);
+}
+
+static void show_record(const char *title, const kl_processor *p)
+{
+    printf("%s: n %" PRIu32 " pc %" PRIu32 " prev %" PRIu32 " jumped %d next %" PRIu32 "\n  services", title, p->n,
+           p->pc, p->prev, p->jumped, p->next);
+    for (int i = 0; i < 3; i++) printf(" %016" PRIX64, p->services[i]);
+    printf("\n  registers");
+    for (int i = 0; i < 16; i++) printf(" %" PRIX32, p->regs[i]);
+    printf("\n");
+}
+
+static void show_state(const state *s)
+{
+    show_record("before", &s->cpu);
+    printf("lent lengths: words %zu owners %zu jumpers %zu writers %zu\n", s->lent[WORDS], s->lent[OWNERS],
+           s->lent[JUMPERS], s->lent[WRITERS]);
+    printf("place: word owner jumpers writers (hexadecimal; the guards past the lent lengths too)\n");
+    for (size_t i = 0; i < s->kept; i++)
+        printf("%zu: %08" PRIX32 " %" PRIX32 " %016" PRIX64 " %016" PRIX64 "\n", i, s->words[i], s->owners[i],
+               s->jumpers[i], s->writers[i]);
+}
+
+static void show_differences(const state *ours, const state *sheet)
+{
+    const kl_processor *a = &ours->cpu, *b = &sheet->cpu;
+    show("n", ALONE, a->n, b->n);
+    show("pc", ALONE, a->pc, b->pc);
+    show("prev", ALONE, a->prev, b->prev);
+    show("jumped", ALONE, a->jumped, b->jumped);
+    show("next", ALONE, a->next, b->next);
+    for (size_t i = 0; i < 16; i++) show("register", i, a->regs[i], b->regs[i]);
+    for (size_t i = 0; i < 3; i++) show("set of service", i, a->services[i], b->services[i]);
+    for (size_t i = 0; i < sheet->kept; i++) {
+        show("word at", i, ours->words[i], sheet->words[i]);
+        show("owner at", i, ours->owners[i], sheet->owners[i]);
+        show("jumpers at", i, ours->jumpers[i], sheet->jumpers[i]);
+        show("writers at", i, ours->writers[i], sheet->writers[i]);
+    }
+}
+
+/* ---- states ---- */
+
+void copy_state(state *to, const state *from)
+{
+    to->cpu = from->cpu;
+    memcpy(to->lent, from->lent, sizeof to->lent);
+    to->kept = from->kept;
+    memcpy(to->words, from->words, from->kept * sizeof to->words[0]);
+    memcpy(to->owners, from->owners, from->kept * sizeof to->owners[0]);
+    memcpy(to->jumpers, from->jumpers, from->kept * sizeof to->jumpers[0]);
+    memcpy(to->writers, from->writers, from->kept * sizeof to->writers[0]);
+}
+
+static bool same_record(const kl_processor *a, const kl_processor *b)
+{
+    return a->n == b->n && a->pc == b->pc && a->prev == b->prev && a->jumped == b->jumped && a->next == b->next &&
+           memcmp(a->regs, b->regs, sizeof a->regs) == 0 && memcmp(a->services, b->services, sizeof a->services) == 0;
+}
+
+/* Whether the memories are equal from the given place of each on, up to the last guard. */
+static bool same_from(const state *a, const state *b, const size_t from[MEMORIES])
+{
+    const size_t w = from[WORDS], o = from[OWNERS], j = from[JUMPERS], r = from[WRITERS], kept = b->kept;
+    return memcmp(a->words + w, b->words + w, (kept - w) * sizeof a->words[0]) == 0 &&
+           memcmp(a->owners + o, b->owners + o, (kept - o) * sizeof a->owners[0]) == 0 &&
+           memcmp(a->jumpers + j, b->jumpers + j, (kept - j) * sizeof a->jumpers[0]) == 0 &&
+           memcmp(a->writers + r, b->writers + r, (kept - r) * sizeof a->writers[0]) == 0;
+}
+
+static const size_t WHOLE[MEMORIES] = {0};
+
+/* Compares what the two sides told and left. On the sheet's side it looks, too, that no guard moved and that what
+   the sheet says is kept was kept: the memories by `keeps_memories`, the record by `keeps_record`. */
+static void settle(const char *call, const state *before, const state *ours, const state *sheet, told a, told b,
+                   bool keeps_memories, bool keeps_record)
+{
+    count_case(b.answer);
+    const bool same = a.answer == b.answer && a.count == b.count && same_record(&ours->cpu, &sheet->cpu) &&
+                      same_from(ours, sheet, WHOLE);
+    const bool sound = same_from(sheet, before, keeps_memories ? WHOLE : sheet->lent) &&
+                       (!keeps_record || same_record(&sheet->cpu, &before->cpu));
+    if (same && sound) return;
+    begin_report(call);
+    if (!sound) printf("  the C side of the comparison changed what it must keep: the fault is in sheet.c\n");
+    show("answer", ALONE, a.answer, b.answer);
+    show("count", ALONE, a.count, b.count);
+    show_differences(ours, sheet);
+    printf("  the sheet's side told answer %" PRIu32 ", count %" PRIu32 "\n", b.answer, b.count);
+    show_state(before);
+    end_report();
+}
+
+/* ---- the calls ---- */
+
+/* The four memories of a state as a call takes them: pointer, then length. */
+#define LENT(s)                                                                                                \
+    (s)->words, (s)->lent[WORDS], (s)->owners, (s)->lent[OWNERS], (s)->jumpers, (s)->lent[JUMPERS], (s)->writers, \
+        (s)->lent[WRITERS]
+
+static state before;
+
+uint32_t check_step(state *ours, state *sheet)
+{
+    copy_state(&before, sheet);
+    const told a = {kl_step(&ours->cpu, LENT(ours)), 0};
+    const told b = {sheet_step(&sheet->cpu, LENT(sheet)), 0};
+    settle("kl_step", &before, ours, sheet, a, b, b.answer != 0, b.answer != 0);
+    return b.answer;
+}
+
+told check_run(state *ours, state *sheet, uint32_t budget)
+{
+    char call[64];
+    snprintf(call, sizeof call, "kl_run with budget %" PRIu32, budget);
+    copy_state(&before, sheet);
+    told a = {0, any_number()}, b = {0, any_number()};
+    a.answer = kl_run(&ours->cpu, LENT(ours), budget, &a.count);
+    b.answer = sheet_run(&sheet->cpu, LENT(sheet), budget, &b.count);
+    settle(call, &before, ours, sheet, a, b, b.count == 0, b.count == 0);
+    return b;
+}
+
+uint32_t check_load(state *ours, state *sheet, const uint8_t *bytes, size_t length)
+{
+    static char call[64 + 3 * BYTES_ROOM];
+    size_t at = (size_t)snprintf(call, 64, "kl_load of %zu bytes:", length);
+    copy_state(&before, sheet);
+    const told a = {kl_load(&ours->cpu, bytes, length, LENT(ours)), 0};
+    const told b = {sheet_load(&sheet->cpu, bytes, length, LENT(sheet)), 0};
+    if (a.answer != b.answer || !same_record(&ours->cpu, &sheet->cpu) || !same_from(ours, sheet, WHOLE))
+        for (size_t i = 0; i < length; i++) at += (size_t)snprintf(call + at, 4, " %02X", bytes[i]);
+    settle(call, &before, ours, sheet, a, b, b.answer != 0, false);
+    return b.answer;
+}
+
+void check_decode(uint32_t word)
+{
+    uint32_t a[4], b[4];
+    for (int i = 0; i < 4; i++) a[i] = b[i] = any_number();
+    const uint32_t ours = kl_decode(word, a), sheet = sheet_decode(word, b);
+    count_case(sheet);
+    if (ours == sheet && memcmp(a, b, sizeof a) == 0) return;
+    begin_report("kl_decode");
+    printf("  word %08" PRIX32 "\n", word);
+    show("answer", ALONE, ours, sheet);
+    for (size_t i = 0; i < 4; i++) show("field", i, a[i], b[i]);
+    end_report();
+}
+
+void check_encode(uint32_t op, uint32_t a, uint32_t b, uint32_t low)
+{
+    uint32_t word = any_number(), wanted = any_number();
+    const uint32_t ours = kl_encode(op, a, b, low, &word), sheet = sheet_encode(op, a, b, low, &wanted);
+    count_case(sheet);
+    if (ours == sheet && word == wanted) return;
+    begin_report("kl_encode");
+    printf("  op %" PRIu32 " a %" PRIu32 " b %" PRIu32 " low %" PRIu32 "\n", op, a, b, low);
+    show("answer", ALONE, ours, sheet);
+    show("word", ALONE, word, wanted);
+    end_report();
+}
+
+void check_write(const uint32_t *words, size_t n, const uint32_t regs[16], uint32_t entry, size_t out_len)
+{
+    static uint8_t out[BYTES_ROOM], wanted[BYTES_ROOM];
+    const size_t kept = out_len + GUARD;
+    size_t length = any_number(), wanted_length = any_number();
+    for (size_t i = 0; i < kept; i++) out[i] = wanted[i] = (uint8_t)(i * 37 + 11);
+    const uint32_t ours = kl_write(words, n, regs, entry, out, out_len, &length);
+    const uint32_t sheet = sheet_write(words, n, regs, entry, wanted, out_len, &wanted_length);
+    count_case(sheet);
+    if (ours == sheet && length == wanted_length && memcmp(out, wanted, kept) == 0) return;
+    begin_report("kl_write");
+    printf("  %zu words, entry %" PRIu32 ", out buffer of %zu bytes, registers", n, entry, out_len);
+    for (int i = 0; i < 16; i++) printf(" %" PRIX32, regs[i]);
+    printf("\n  words");
+    for (size_t i = 0; i < n; i++) printf(" %08" PRIX32, words[i]);
+    printf("\n");
+    show("answer", ALONE, ours, sheet);
+    show("length", ALONE, length, wanted_length);
+    for (size_t i = 0; i < kept; i++) show("byte at", i, out[i], wanted[i]);
+    end_report();
+}
+
+void expect(const char *what, uint64_t ours, uint64_t sheet, uint64_t wanted)
+{
+    count_case(ANSWERS);
+    if (ours == wanted && sheet == wanted) return;
+    begin_report(what);
+    printf("  the sheet's line wants %" PRIu64 "; the library gives %" PRIu64 ", sheet.c %" PRIu64 "\n", wanted, ours,
+           sheet);
+    end_report();
+}

@@ -1,0 +1,75 @@
+/* What the parts of the host test share: states, dice, generators, the checker and the kinds of cases. */
+#ifndef COMPARE_H
+#define COMPARE_H
+
+#include "kldemuvash.h"
+#include "sheet.h"
+
+enum { WORDS, OWNERS, JUMPERS, WRITERS, MEMORIES };
+enum { GUARD = 8, ROOM = 2048 + 16 + GUARD, IMAGE_MOST = 8272, BYTES_ROOM = IMAGE_MOST + 64 };
+enum { ISOLATE = 4096, ADD_JUMP = 4097, ADD_STORE = 4098 };
+enum { PROGRAM_SIZE = 144 };
+
+/* A record, the four memories beside it and the lengths that are lent. The places from a lent length on, up to
+   `kept`, guard the memory's end: no call may touch them. */
+typedef struct state {
+    kl_processor cpu;
+    size_t lent[MEMORIES], kept;
+    uint32_t words[ROOM], owners[ROOM];
+    uint64_t jumpers[ROOM], writers[ROOM];
+} state;
+
+/* What a call told beside what it left. */
+typedef struct told {
+    uint32_t answer, count;
+} told;
+
+/* ---- dice.c: random numbers, the same for the same seed, kind and case ---- */
+void throw_dice(uint64_t seed, uint64_t kind, uint64_t number);
+uint64_t roll(void);
+uint32_t below(uint32_t n);                       /* 0 to n-1; n is not 0 */
+uint32_t between(uint32_t least, uint32_t most);  /* both included */
+bool one_in(uint32_t n);
+uint32_t any_number(void);                        /* often at an edge */
+uint32_t near_address(uint32_t n);                /* mostly in a memory of n words, or just beside, or a service */
+uint32_t any_instruction(void);                   /* a word that decodes */
+
+/* ---- make.c: random states, sets and images ---- */
+void make_state(state *s, uint32_t n);            /* one that 14 lets pass, most often */
+uint32_t some_size(void);                         /* N: mostly small */
+void spoil_state(state *s);                       /* so that 14 or 15 turn it away, most often */
+void make_service_call(state *s);                 /* pc at a service, with sets that are mostly good */
+size_t make_image(uint8_t *bytes, uint32_t n);    /* a valid image; gives its length */
+size_t make_program(uint8_t *bytes);              /* a valid image of PROGRAM_SIZE words that runs for a while */
+void spoil_image(uint8_t *bytes, size_t *length);
+void noise(state *s, size_t longest);             /* fills record and memories; kept = longest + GUARD */
+void lend(state *s, size_t length);               /* lends all four memories at this length */
+
+/* ---- check.c: calls both sides, compares all they left, reports a difference and ends; gives what they told ---- */
+uint32_t check_step(state *ours, state *sheet);
+told check_run(state *ours, state *sheet, uint32_t budget);
+uint32_t check_load(state *ours, state *sheet, const uint8_t *bytes, size_t length);
+void check_decode(uint32_t word);
+void check_encode(uint32_t op, uint32_t a, uint32_t b, uint32_t low);
+void check_write(const uint32_t *words, size_t n, const uint32_t regs[16], uint32_t entry, size_t out_len);
+void copy_state(state *to, const state *from);
+void expect(const char *what, uint64_t ours, uint64_t sheet, uint64_t wanted); /* by the sheet's own lines */
+void begin_kind(const char *name, uint64_t seed);
+void begin_case(uint64_t number);
+uint64_t end_kind(void);                          /* prints the kind's counts; gives its cases */
+
+/* ---- cases.c, lines.c: the kinds ---- */
+void fixed_words(void);
+void fixed_images(void);
+void fixed_writes(void);
+void fixed_services(void);
+void words_case(void);
+void images_case(void);
+void writes_case(void);
+void states_case(void);
+void refused_case(void);
+void services_case(void);
+void programs_case(void);
+void sheet_lines(void);
+
+#endif

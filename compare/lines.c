@@ -1,0 +1,212 @@
+/* The sheet's own lines, with the outcomes that the sheet gives: the library and sheet.c must both have them, so that
+   an error that both share is met too. */
+#include "compare.h"
+#include "words.h"
+
+#include <string.h>
+
+static state ours, sheet;
+
+/* Loads an image of these words, all registers 0, entry 0, over memories of n + 3 places. */
+static void load_words(const uint32_t *words, uint32_t n)
+{
+    static uint8_t bytes[BYTES_ROOM];
+    const uint32_t regs[16] = {0};
+    size_t length;
+    sheet_write(words, n, regs, 0, bytes, sizeof bytes, &length);
+    noise(&sheet, n + 3);
+    lend(&sheet, n + 3);
+    copy_state(&ours, &sheet);
+    expect("load", check_load(&ours, &sheet, bytes, length), 0, 0);
+}
+
+#define LOAD(words) load_words(words, sizeof(words) / sizeof((words)[0]))
+
+/* The record was changed on the sheet's side: the same on ours. */
+static void set_both(void) { copy_state(&ours, &sheet); }
+
+/* A run ends with this answer, count and pc. */
+static void runs(const char *line, uint32_t budget, uint32_t answer, uint32_t count, uint32_t pc)
+{
+    const told t = check_run(&ours, &sheet, budget); /* both sides told the same */
+    expect(line, t.answer, t.answer, answer);
+    expect(line, t.count, t.count, count);
+    expect(line, ours.cpu.pc, sheet.cpu.pc, pc);
+}
+
+static uint64_t ones_of(const state *s, const uint64_t *sets, uint32_t c)
+{
+    uint64_t ones = 0;
+    for (uint32_t x = 0; x < s->cpu.n; x++) ones += sets[x] >> c & 1;
+    if (sets == s->jumpers)
+        for (int i = 0; i < 3; i++) ones += s->cpu.services[i] >> c & 1;
+    return ones;
+}
+
+static uint64_t owned_by(const state *s, uint32_t c)
+{
+    uint64_t owned = c >= 1 && c <= 3;
+    for (uint32_t x = 0; x < s->cpu.n; x++) owned += s->owners[x] == c;
+    return owned;
+}
+
+/* A line of the run program: number, addresses owned, in J, in S. */
+static void row(uint32_t c, uint32_t owned, uint32_t jump, uint32_t store)
+{
+    expect("addresses owned", owned_by(&ours, c), owned_by(&sheet, c), owned);
+    expect("addresses in J", ones_of(&ours, ours.jumpers, c), ones_of(&sheet, sheet.jumpers, c), jump);
+    expect("addresses in S", ones_of(&ours, ours.writers, c), ones_of(&sheet, sheet.writers, c), store);
+}
+
+static void decodes(uint32_t word, uint32_t answer, uint32_t op, uint32_t a, uint32_t b, uint32_t low)
+{
+    const uint32_t wanted[4] = {op, a, b, low};
+    uint32_t f[4], g[4];
+    expect("decode", kl_decode(word, f), sheet_decode(word, g), answer);
+    for (int i = 0; i < 4; i++) expect("decode", f[i], g[i], wanted[i]);
+}
+
+static void word_lines(void)
+{
+    decodes(0x01200007, 0, 1, 2, 0, 7);
+    decodes(0x00000007, 3, 0, 0, 0, 0);
+    decodes(0x0C10FFFF, 0, 12, 1, 0, 0xFFFF);
+    decodes(0x0D000000, 0, 13, 0, 0, 0);
+    decodes(0x0E000000, 3, 0, 0, 0, 0);
+    decodes(0x03120003, 0, 3, 1, 2, 3);
+    decodes(0x03120013, 3, 0, 0, 0, 0);
+}
+
+/* Sums are modulo 2^32, Leq is unsigned, and Bnz goes from pc 0 to -1, 32,767 and -32,768. */
+static void number_lines(void)
+{
+    static const uint32_t both[] = {0x03120003, 0x07120003};
+    static const uint32_t branches[][2] = {{0x0C10FFFF, UINT32_MAX}, {0x0C107FFF, 32767}, {0x0C108000, 0xFFFF8000}};
+    for (int i = 0; i < 2; i++) {
+        load_words(&both[i], 1);
+        sheet.cpu.regs[1] = UINT32_MAX, sheet.cpu.regs[2] = 1, sheet.cpu.regs[3] = 9;
+        set_both();
+        runs("a sum or Leq of 4294967295 and 1", 1, 0, 1, 1);
+        expect("r3", ours.cpu.regs[3], sheet.cpu.regs[3], 0);
+    }
+    for (int i = 0; i < 3; i++) {
+        load_words(&branches[i][0], 1);
+        sheet.cpu.regs[1] = 5;
+        set_both();
+        runs("Bnz from pc 0", 1, 0, 1, branches[i][1]);
+        runs("the step after it", 1, 2, 0, branches[i][1]);
+    }
+}
+
+static void image_one(void)
+{
+    const uint32_t words[] = {0x01100003, 0x01200007, 0x09120000, 0x0D000000};
+    LOAD(words);
+    runs("image one", 100000, 3, 3, 3);
+    row(0, 4, 3, 0);
+    for (uint32_t c = 1; c < 4; c++) row(c, 1, 4, 0);
+    expect("prev", ours.cpu.prev, sheet.cpu.prev, 0);
+    expect("jumped", ours.cpu.jumped, sheet.cpu.jumped, 0);
+    expect("next", ours.cpu.next, sheet.cpu.next, 4);
+}
+
+/* Image two with another word at 6, after 12 was added as a target by the service at `add` (0: it was not). */
+static void image_two(uint32_t at_6, uint32_t add)
+{
+    const uint32_t words[] = {CONST_(9, 1), CONST_(8, 2), CONST_(8, 3), CONST_(4096, 4), JAL_(4), CONST_(12, 5),
+                              at_6, HALT_, 0, 1, 12, 13, HALT_};
+    LOAD(words);
+    if (add == 0) return;
+    sheet.cpu.pc = add, sheet.cpu.jumped = true, sheet.cpu.regs[1] = 12;
+    set_both();
+    runs("12 added as a target, back at 0", 1, 0, 1, 0);
+}
+
+static void image_two_lines(void)
+{
+    image_two(STORE_(5, 1), 0);
+    runs("image two", 100000, 7, 7, 6);
+    expect("next", ours.cpu.next, sheet.cpu.next, 5);
+    row(0, 12, 3, 0);
+    for (uint32_t c = 1; c < 4; c++) row(c, 1, 13, 0);
+    row(4, 1, 0, 0);
+    image_two(STORE_(5, 1), 4098);
+    runs("image two after 12 was added as a store target", 100000, 1, 8, 7);
+    image_two(BNZ_(5, 6), 0);
+    runs("Bnz to 12", 100000, 4, 8, 12);
+    image_two(BNZ_(5, 6), 4097);
+    runs("Bnz to 12, a jump target", 100000, 4, 8, 12);
+    image_two(JUMP_(5), 0);
+    runs("Jump to 12", 100000, 4, 8, 12);
+    image_two(JUMP_(5), 4097);
+    runs("Jump to 12, a jump target", 100000, 1, 8, 12);
+}
+
+/* A loop that isolates a word a turn: seven steps, then seven a turn, of which the 61st stops at its service. */
+static void sixty_isolates(void)
+{
+    uint32_t words[100] = {CONST_(1, 7), CONST_(4096, 4), CONST_(17, 2), CONST_(17, 3), CONST_(30, 9), CONST_(19, 12),
+                           CONST_(20, 13), STORE_(12, 9), ADD_(9, 7, 9), STORE_(13, 9), CONST_(18, 1), JAL_(4),
+                           BNZ_(7, -5), [18] = 1};
+    LOAD(words);
+    runs("60 isolates, then 13", 100000, 13, 7 + 60 * 7 + 5, 4096);
+    expect("next", ours.cpu.next, sheet.cpu.next, 64);
+    for (uint32_t c = 4; c < 64; c++) row(c, 1, 0, 0);
+}
+
+/* Jump to 4096: r15 = 0 returns to 0, r15 = 4096 answers 12; next 63 runs, next 64 answers 13. */
+static void isolate_lines(void)
+{
+    static const uint32_t tries[][4] = {{0, 4, 0, 5}, {4096, 4, 12, 4}, {0, 63, 0, 64}, {0, 64, 13, 64}};
+    const uint32_t words[] = {HALT_, JUMP_(4), 0, 1, 5, 6};
+    for (int i = 0; i < 4; i++) {
+        LOAD(words);
+        const uint32_t regs[16] = {0, 3, 2, 2, 4096, [15] = tries[i][0]};
+        memcpy(sheet.cpu.regs, regs, sizeof regs);
+        sheet.cpu.pc = 1, sheet.cpu.next = tries[i][1];
+        set_both();
+        const uint32_t ran = tries[i][2] == 0;
+        runs("Jump to 4096", 2, tries[i][2], 1 + ran, ran ? tries[i][0] : 4096);
+        expect("next", ours.cpu.next, sheet.cpu.next, tries[i][3]);
+        if (ran) runs("the return to 0", 1, 1, 0, 0);
+    }
+}
+
+/* Jal to each service from word N-1. */
+static void last_word_lines(void)
+{
+    const uint32_t words[] = {0, 1, 1, 2, JAL_(4)};
+    for (uint32_t service = 4096; service <= 4098; service++) {
+        LOAD(words);
+        sheet.cpu.pc = 4, sheet.cpu.regs[1] = 1, sheet.cpu.regs[4] = service;
+        set_both();
+        runs("Jal to a service from word N-1", 10, 12, 1, service);
+        expect("r15", ours.cpu.regs[15], sheet.cpu.regs[15], 5);
+    }
+}
+
+/* A child that jumps to 4096: 4 where J' did not give it, and the service's own checks (12) where it did. */
+static void child_lines(void)
+{
+    for (uint32_t given = 0; given < 2; given++) {
+        const uint32_t words[] = {CONST_(18, 1), CONST_(4097, 4), JAL_(4), CONST_(12, 1), CONST_(15, 2), CONST_(11, 3),
+                                  CONST_(4096, 4), JAL_(4), CONST_(18, 5), JUMP_(5), HALT_, 0, 1, 18, 20, given, 4096,
+                                  4097, CONST_(4096, 6), JUMP_(6)};
+        LOAD(words);
+        runs("a child at 4096", 100, given ? 12 : 4, 14, 4096);
+        expect("prev", ours.cpu.prev, sheet.cpu.prev, 4);
+        row(4, 2, given, 0);
+    }
+}
+
+void sheet_lines(void)
+{
+    word_lines();
+    number_lines();
+    image_one();
+    image_two_lines();
+    sixty_isolates();
+    isolate_lines();
+    last_word_lines();
+    child_lines();
+}

@@ -1,0 +1,98 @@
+/* The C interface of the verified library (target/staticlib/libhost.a, made by `rt staticlib host`).
+
+   A host keeps one kl_processor and four memories, and lends them to each call:
+     words    one 32-bit word per place
+     owners   the compartment number that owns the place
+     jumpers  the set I of the place, a bit per compartment: who may arrive there by a jump
+     writers  the set W of the place, a bit per compartment: who may store there
+   Memory is the places 0 to n-1; the memories may be longer, and the places from n on are neither
+   read nor changed. Services are at 4096 (isolate), 4097 (add jump target), 4098 (add store target).
+
+   Every call takes any values and always returns. Each answer is one number; 0 means done. A call that
+   answers another number leaves everything it was lent as it was, except where its comment says more.
+   What the host owes: each pointer is not null and points at as many places as its length says (also
+   where the length is 0), what is lent to one call does not overlap, and `jumped` is true or false.
+
+   On x86-64 Linux; usable from C (C99 on) and C++. */
+#ifndef KLDEMUVASH_H
+#define KLDEMUVASH_H
+
+#include <stdbool.h>
+#include <stddef.h>
+#include <stdint.h>
+
+#ifdef __cplusplus
+extern "C" {
+#endif
+
+/* The processor's numbers. The host may read them at any time and may set them as it likes: a step
+   answers 14 or 15 where they do not form a state. */
+typedef struct kl_processor {
+    uint32_t n;           /* N, the number of memory words: 1 to 2,048; 0 after a refused load */
+    uint32_t regs[16];    /* r0 to r15; r15 takes the return address */
+    uint32_t pc;          /* the address of the next instruction */
+    uint32_t prev;        /* the pc number: the compartment that ran last */
+    bool jumped;          /* whether the last step was a Jump, a Jal or a service */
+    uint32_t next;        /* the first unused compartment number: 4 to 64 */
+    uint64_t services[3]; /* the sets I of 4096, 4097 and 4098 */
+} kl_processor;
+
+/* Loads the image in `bytes`.
+   Answers 0: the first N places of each memory are filled (words from the image, owner 0, I = {1, 2, 3},
+   W empty), the places from N on keep their contents, and the record is the loaded one (registers and pc
+   from the image, prev 0, not jumped, next 4, each service's set {0}).
+   Answers, the first that applies: 27 the four memories differ in length; then from left to right
+   20 a field is not whole, 21 N not 1 to 2,048, 28 N above the lent length, 22 more than 16 registers,
+   23 the last listed register is 0, 24 entry count not 1, 25 entry not below N; then 26 bytes left over.
+   A refused load leaves the four memories as they were and the record blank: n 0, registers 0, pc 0,
+   prev 0, not jumped, next 4, each service's set {0}. */
+uint32_t kl_load(kl_processor *cpu, const uint8_t *bytes, size_t bytes_len,
+                 uint32_t *words, size_t words_len, uint32_t *owners, size_t owners_len,
+                 uint64_t *jumpers, size_t jumpers_len, uint64_t *writers, size_t writers_len);
+
+/* Makes one step.
+   Answers 0: the step ran, and the record and the memories are the state after it.
+   Answers 1: the instruction is a Halt.
+   Answers 2 to 13: the step stops. 2 pc is neither in memory nor a service; 3 no instruction; 4 arrival
+   not allowed; 5 Load outside memory; 6 Store outside memory; 7 Store not allowed; 8 a set of isolate is
+   not inside memory or has first >= past; 9 A' is empty; 10 a set goes beyond what the caller has; 11 the
+   caller does not own the target; 12 the return address is not the caller's; 13 no compartment is left.
+   Answers 14: the memories differ in length, n is not 1 to 2,048 or is above that length, next is not 4 to
+   64, prev is not below next, or prev is 1, 2 or 3 while pc is a service.
+   Answers 15: the owner of the word at pc is 1, 2, 3 or not below next.
+   The first that applies is given, in the order 14, 2, 15, 4; then at a memory word 3, and 5, 6, 7 or 1 by
+   its instruction; at isolate 8, 9, 10, 12, 13; at the other services 11, 12.
+   With any answer but 0 the record and the memories are as they were, and the next step answers alike. */
+uint32_t kl_step(kl_processor *cpu,
+                 uint32_t *words, size_t words_len, uint32_t *owners, size_t owners_len,
+                 uint64_t *jumpers, size_t jumpers_len, uint64_t *writers, size_t writers_len);
+
+/* Makes steps until one answers another number than 0, or `budget` of them answered 0.
+   Answers that number, or 0 where the budget was used. *count is the number of steps that answered 0; the
+   record and the memories are the state after those steps. Budget 0 looks at nothing: answer 0, *count 0. */
+uint32_t kl_run(kl_processor *cpu,
+                uint32_t *words, size_t words_len, uint32_t *owners, size_t owners_len,
+                uint64_t *jumpers, size_t jumpers_len, uint64_t *writers, size_t writers_len,
+                uint32_t budget, uint32_t *count);
+
+/* Takes an instruction word apart: fields[0] opcode, [1] field a, [2] field b, [3] the low 16 bits, all
+   unsigned (a Bnz's offset as its raw 16 bits). Answers 0, or 3 where the word is no instruction; then the
+   four fields are 0. */
+uint32_t kl_decode(uint32_t word, uint32_t fields[4]);
+
+/* Puts an instruction word together. Answers 0 with the word in *word, or 30 with *word 0 where the opcode
+   is above 13, a field is out of its range, or a field that the opcode does not use is not 0. */
+uint32_t kl_encode(uint32_t op, uint32_t a, uint32_t b, uint32_t low, uint32_t *word);
+
+/* Writes the image of exactly `words_len` words, sixteen registers and an entry to the front of `out`.
+   Answers 0 with the number of bytes written in *length; `out` beyond them keeps its contents.
+   Answers, the first that applies: 21 the number of words is not 1 to 2,048, 25 entry not below it, 31 `out`
+   is too short; then *length is 0 and `out` is as it was. 8,272 bytes are enough for every image. */
+uint32_t kl_write(const uint32_t *words, size_t words_len, const uint32_t regs[16], uint32_t entry,
+                  uint8_t *out, size_t out_len, size_t *length);
+
+#ifdef __cplusplus
+}
+#endif
+
+#endif
