@@ -1,8 +1,8 @@
 -- Laws of the two calls: who reaches an address, and each return of the checks.
 use mathlib.Core.Path.{_≡_, refl, sym, ap, _∙_, fun-ext}
 use mathlib.Core.Bool.{Bool, true, false, cond, _&&_, _||_, not, or-false}
-use mathlib.Core.List.{List, [], _∷_}
-use Prim.Native.Nat.{ℕ, zero, suc, _+_, _-_, _<_, _≤_}
+use mathlib.Core.List.{List, []}
+use Prim.Native.Nat.{ℕ, _+_, _-_, _<_, _≤_}
 use native.Mathlib.Omega.{arith}
 use borrow.Author.Tests.{leb-true, eq-eqb, ne-eqb, not-true, not-false}
 use lib.Dec.{ltb, leb, eqb}
@@ -32,16 +32,12 @@ reaches s c x = owns s c x || mayJump s c x
 abbrev pub leaves : List ℕ → ℕ → ℕ → ℕ → List ℕ → ℕ → Bool
 leaves words q n c owners x = ltb x n && owns (asked n owners [] []) c x && not (inSet (setAt words q) x)
 
--- sets that nobody is in
-abbrev pub nobody : List ℕ
-nobody = empty ∷ []
-
 -- each of the three sets is within what c reaches by the sets of numbers that count for it
 abbrev pub allWithin : State → ℕ → Bool
 allWithin s c =
-    within (setA s) (reaches (asked (s .cpu .n) (s .owners) nobody nobody) c)
+    within (setA s) (reaches (asked (s .cpu .n) (s .owners) [] []) c)
     && within (setJ s) (reaches (asked (s .cpu .n) (s .owners) (s .jumpers) (s .cpu .services)) c)
-    && within (setS s) (reaches (asked (s .cpu .n) (s .owners) (s .writers) nobody) c)
+    && within (setS s) (reaches (asked (s .cpu .n) (s .owners) (s .writers) []) c)
 
 -- no set is bad
 abbrev pub allGood : State → Bool
@@ -74,44 +70,40 @@ module _ (n : ℕ) (owners sets services : List ℕ) (c x : ℕ) (a : Bool) (own
       let e : owns (asked n owners sets services) c x ≡ false = same-owns (asked n owners sets services) (asked n owners [] []) c x refl refl ∙ sym own ∙ h in
       g ∙ ap (λ (k : ℕ). member k c) f ∙ simp e
 
-nobody-at : (x : ℕ) → getD nobody x empty ≡ empty
-nobody-at zero = refl
-nobody-at (suc x) = refl
-
-nobody-reaches : (n : ℕ) (owners : List ℕ) (x : ℕ) → jumpersAt (asked n owners nobody nobody) x ≡ empty
+nobody-reaches : (n : ℕ) (owners : List ℕ) (x : ℕ) → jumpersAt (asked n owners [] []) x ≡ empty
 unfolding jumpersAt
-nobody-reaches n owners x = go (inMemory (asked n owners nobody nobody) x) (isService x)
+nobody-reaches n owners x = go (inMemory (asked n owners [] []) x) (isService x)
   where
-    go : (a b : Bool) → cond a (getD nobody x empty) (cond b (getD nobody (x - isolate) empty) empty) ≡ empty
-    go true b = nobody-at x
-    go false true = nobody-at (x - isolate)
+    go : (a b : Bool) → cond a (getD [] x empty) (cond b (getD [] (x - isolate) empty) empty) ≡ empty
+    go true b = refl
+    go false true = refl
     go false false = refl
 
 module _ (s : State) (c : ℕ) where
   abbrev seen : List ℕ → List ℕ → State
   seen sets services = asked (s .cpu .n) (s .owners) sets services
 
-  reaches-own : (x : ℕ) → reaches (seen nobody nobody) c x ≡ owns s c x
+  reaches-own : (x : ℕ) → reaches (seen [] []) c x ≡ owns s c x
   unfolding mayJump
   reaches-own x =
-      ap (λ (set : ℕ). owns (seen nobody nobody) c x || member set c) (nobody-reaches (s .cpu .n) (s .owners) x)
-      ∙ ap (λ (b : Bool). owns (seen nobody nobody) c x || b) (member-empty c)
-      ∙ or-false (owns (seen nobody nobody) c x)
-      ∙ same-owns (seen nobody nobody) s c x refl refl
+      ap (λ (set : ℕ). owns (seen [] []) c x || member set c) (nobody-reaches (s .cpu .n) (s .owners) x)
+      ∙ ap (λ (b : Bool). owns (seen [] []) c x || b) (member-empty c)
+      ∙ or-false (owns (seen [] []) c x)
+      ∙ same-owns (seen [] []) s c x refl refl
 
   reaches-jump : (x : ℕ) → reaches (seen (s .jumpers) (s .cpu .services)) c x ≡ (owns s c x || mayJump s c x)
   unfolding mayJump jumpersAt inMemory
   reaches-jump x = ap (λ (b : Bool). b || mayJump s c x) (same-owns (seen (s .jumpers) (s .cpu .services)) s c x refl refl)
 
-  reaches-store : (x : ℕ) → reaches (seen (s .writers) nobody) c x ≡ (owns s c x || mayStore s c x)
+  reaches-store : (x : ℕ) → reaches (seen (s .writers) []) c x ≡ (owns s c x || mayStore s c x)
   unfolding mayJump jumpersAt mayStore writersAt inMemory
   reaches-store x =
-      ap (λ (b : Bool). b || mayJump (seen (s .writers) nobody) c x) (same-owns (seen (s .writers) nobody) s c x refl refl)
+      ap (λ (b : Bool). b || mayJump (seen (s .writers) []) c x) (same-owns (seen (s .writers) []) s c x refl refl)
       ∙ ap (λ (set : ℕ). owns s c x || member set c) (go (ltb x (s .cpu .n)) (isService x))
     where
-      go : (a b : Bool) → cond a (getD (s .writers) x empty) (cond b (getD nobody (x - isolate) empty) empty) ≡ cond a (getD (s .writers) x empty) empty
+      go : (a b : Bool) → cond a (getD (s .writers) x empty) (cond b (getD [] (x - isolate) empty) empty) ≡ cond a (getD (s .writers) x empty) empty
       go true b = refl
-      go false true = nobody-at (x - isolate)
+      go false true = refl
       go false false = refl
 
   pub sets-within : allWithin s c ≡ setsWithin s c

@@ -36,14 +36,14 @@ fn all_within(
     requires { ⌜ AllCounted (now words) (now regs) ⌝ }
     ensures { λ r. ⌜ r ≡ allWithin (called (now (regs .entry)) n caller 0 (now (services .entry)) (now (words .entry)) (now (owners .entry)) (now (jumpers .entry)) (now (writers .entry))) caller ⌝ }
 {
-    let nobody = [0u64; 1];
-    if !sets::within(words, regs[1], n, caller, owners, &nobody, &nobody) {
+    let none = &services[..0];
+    if !sets::within(words, regs[1], n, caller, owners, none, none) {
         return false;
     }
     if !sets::within(words, regs[2], n, caller, owners, jumpers, services) {
         return false;
     }
-    sets::within(words, regs[3], n, caller, owners, writers, &nobody)
+    sets::within(words, regs[3], n, caller, owners, writers, none)
 }
 
 // The checks of isolate in the sheet's order.
