@@ -11,7 +11,7 @@ use Rattle.common.specs.Answers as answer
 use Rattle.common.specs.Tests.{both}
 use Rattle.common.specs.Instructions.{reg}
 use Rattle.common.specs.Services.{isolate, serviceCount, isService}
-use Rattle.common.specs.AddressSets.{setAt, goodSet, isEmpty, inSet, within}
+use Rattle.common.specs.AddressSets.{setAt, isEmpty, inSet, within}
 use Rattle.rules.specs.Compartments.{numbers, member, empty}
 use Rattle.rules.specs.CompartmentLaws.{member-empty}
 use Rattle.rules.specs.State.{State, inMemory, hasOwner, ownerAt, jumpersAt, writersAt, owns, mayJump, mayStore}
@@ -39,12 +39,7 @@ allWithin s c =
     && within (setJ s) (reaches (asked (s .cpu .n) (s .owners) (s .jumpers) (s .cpu .services)) c)
     && within (setS s) (reaches (asked (s .cpu .n) (s .owners) (s .writers) []) c)
 
--- no set is bad
-abbrev pub allGood : State → Bool
-allGood s =
-    goodSet (s .words) (s .cpu .n) (reg (s .cpu .regs) 1) && goodSet (s .words) (s .cpu .n) (reg (s .cpu .regs) 2)
-    && goodSet (s .words) (s .cpu .n) (reg (s .cpu .regs) 3)
-
+-- the three sets stand at places that a 32-bit number counts
 abbrev pub AllCounted : List ℕ → List ℕ → Type 0
 AllCounted words regs = Counted words (reg regs 1) × Counted words (reg regs 2) × Counted words (reg regs 3)
 
@@ -54,7 +49,7 @@ service-from x h = leb-true isolate x (both (leb isolate x) (ltb x (isolate + se
 
 -- ---- owners and sets, apart from the rest of the state
 
-pub same-owns : (s t : State) (c x : ℕ) → s .cpu .n ≡ t .cpu .n → s .owners ≡ t .owners → owns s c x ≡ owns t c x
+same-owns : (s t : State) (c x : ℕ) → s .cpu .n ≡ t .cpu .n → s .owners ≡ t .owners → owns s c x ≡ owns t c x
 unfolding owns hasOwner ownerAt inMemory
 same-owns s t c x e f = simp (e, f)
 
@@ -106,11 +101,11 @@ module _ (s : State) (c : ℕ) where
       go false true = refl
       go false false = refl
 
-  pub sets-within : allWithin s c ≡ setsWithin s c
+  sets-within : allWithin s c ≡ setsWithin s c
   unfolding setsWithin
   sets-within = simp (fun-ext reaches-own, fun-ext reaches-jump, fun-ext reaches-store)
 
-  pub leaves-returns : leaves (s .words) (reg (s .cpu .regs) 1) (s .cpu .n) c (s .owners) (reg (s .cpu .regs) 15) ≡ returns s c
+  leaves-returns : leaves (s .words) (reg (s .cpu .regs) 1) (s .cpu .n) c (s .owners) (reg (s .cpu .regs) 15) ≡ returns s c
   unfolding returns inMemory
   leaves-returns =
       ap (λ (b : Bool). ltb (reg (s .cpu .regs) 15) (s .cpu .n) && b && not (inSet (setA s) (reg (s .cpu .regs) 15)))
@@ -119,14 +114,10 @@ module _ (s : State) (c : ℕ) where
 -- ---- each return of isolate's checks, from what the code's tests say
 
 -- the code's first test of isolate has the result t, and so on
-module _ (s : State) (c : ℕ) (t : Bool) (good : t ≡ allGood s) where
-  good-sets : (b : Bool) → t ≡ b → goodSets s ≡ b
-  unfolding goodSets
-  good-sets b h = sym good ∙ h
-
+module _ (s : State) (c : ℕ) (t : Bool) (good : t ≡ goodSets s) where
   pub bad-sets : not t ≡ true → answer.bad-set ≡ isolateVerdict s c
   unfolding isolateVerdict
-  bad-sets h = simp (good-sets false (not-true t h))
+  bad-sets h = simp (← good, not-true t h)
 
   module _ (is-good : not t ≡ false) (k : ℕ) (count : k ≡ getD (s .words) (reg (s .cpu .regs) 1) 0) where
     is-empty : (b : Bool) → eqb k 0 ≡ b → isEmpty (setA s) ≡ b
@@ -134,19 +125,19 @@ module _ (s : State) (c : ℕ) (t : Bool) (good : t ≡ allGood s) where
 
     pub no-addresses : k ≡ 0 → answer.empty-set ≡ isolateVerdict s c
     unfolding isolateVerdict
-    no-addresses h = simp (good-sets true (not-false t is-good), is-empty true (eq-eqb k 0 h))
+    no-addresses h = simp (sym good ∙ not-false t is-good, is-empty true (eq-eqb k 0 h))
 
     module _ (some : k ≡ 0 → ⊥) (u : Bool) (inside : u ≡ allWithin s c) where
       pub not-within : not u ≡ true → answer.not-within ≡ isolateVerdict s c
       unfolding isolateVerdict
       not-within h =
-          simp (good-sets true (not-false t is-good), is-empty false (ne-eqb k 0 some), sym (sets-within s c) ∙ sym inside ∙ not-true u h)
+          simp (sym good ∙ not-false t is-good, is-empty false (ne-eqb k 0 some), sym (sets-within s c) ∙ sym inside ∙ not-true u h)
 
       module _ (is-inside : not u ≡ false) (v : Bool) (back : v ≡ leaves (s .words) (reg (s .cpu .regs) 1) (s .cpu .n) c (s .owners) (reg (s .cpu .regs) 15)) where
         last : (b : Bool) → v ≡ b → isolateVerdict s c ≡ cond b (cond (eqb (s .cpu .next) numbers) answer.no-number answer.done) answer.no-return
         unfolding isolateVerdict
         last b h =
-            simp (good-sets true (not-false t is-good), is-empty false (ne-eqb k 0 some), sym (sets-within s c) ∙ sym inside ∙ not-false u is-inside, sym (leaves-returns s c) ∙ sym back ∙ h)
+            simp (sym good ∙ not-false t is-good, is-empty false (ne-eqb k 0 some), sym (sets-within s c) ∙ sym inside ∙ not-false u is-inside, sym (leaves-returns s c) ∙ sym back ∙ h)
 
         pub no-return : not v ≡ true → answer.no-return ≡ isolateVerdict s c
         no-return h = sym (last false (not-true v h))

@@ -68,7 +68,7 @@ module _ {every : List Pair → Bool} {each : Pair → Bool} (law : Every every 
   unfolding setAt
   every-all j e h = ap (λ (k : ℕ). every (pairsAt words (q + 1) k)) (sym e) ∙ h
 
-abbrev pub isOrdered : Pair → Bool
+abbrev isOrdered : Pair → Bool
 isOrdered p = ltb (p .first) (p .past)
 
 pub every-ordered : Every ordered isOrdered
@@ -84,7 +84,7 @@ every-misses x = record { none = refl; more = λ p ps. not-or (inSet ps x) (inPa
     not-or true b = refl
     not-or false b = refl
 
-abbrev pub passes : (ℕ → Bool) → Pair → Bool
+abbrev passes : (ℕ → Bool) → Pair → Bool
 passes test p = allFrom test (p .first) (p .past - p .first)
 
 pub every-within : (test : ℕ → Bool) → Every (λ ps. within ps test) (passes test)

@@ -111,7 +111,7 @@ fn is_service(x: u32) -> bool
     ISOLATE <= x
 }
 
-// Whether the caller owns x, a memory word or a service.
+// Whether the caller owns x, a memory word or a service. The compartments 1, 2 and 3 own the services.
 pub fn owns(n: u32, caller: u32, owners: &[u32], x: u32) -> bool
     ensures { λ r. ⌜ r ≡ owns (asked n (now (owners .entry)) [] []) caller x ⌝ }
 {
