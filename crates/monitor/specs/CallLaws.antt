@@ -1,8 +1,8 @@
 -- Laws of the two calls: who reaches an address, and each return of the checks.
 use mathlib.Core.Path.{_≡_, refl, sym, ap, _∙_, fun-ext}
 use mathlib.Core.Bool.{Bool, true, false, cond, _&&_, _||_, not, or-false}
-use mathlib.Core.List.{List, [], _∷_}
-use Prim.Native.Nat.{ℕ, zero, suc, _+_, _-_, _<_, _≤_}
+use mathlib.Core.List.{List, []}
+use Prim.Native.Nat.{ℕ, _+_, _-_, _<_, _≤_}
 use native.Mathlib.Omega.{arith}
 use borrow.Author.Tests.{leb-true, eq-eqb, ne-eqb, not-true, not-false}
 use lib.Dec.{ltb, leb, eqb}
@@ -11,7 +11,7 @@ use Rattle.common.specs.Answers as answer
 use Rattle.common.specs.Tests.{both}
 use Rattle.common.specs.Instructions.{reg}
 use Rattle.common.specs.Services.{isolate, serviceCount, isService}
-use Rattle.common.specs.AddressSets.{setAt, goodSet, isEmpty, inSet, within}
+use Rattle.common.specs.AddressSets.{setAt, isEmpty, inSet, within}
 use Rattle.rules.specs.Compartments.{numbers, member, empty}
 use Rattle.rules.specs.CompartmentLaws.{member-empty}
 use Rattle.rules.specs.State.{State, inMemory, hasOwner, ownerAt, jumpersAt, writersAt, owns, mayJump, mayStore}
@@ -32,23 +32,14 @@ reaches s c x = owns s c x || mayJump s c x
 abbrev pub leaves : List ℕ → ℕ → ℕ → ℕ → List ℕ → ℕ → Bool
 leaves words q n c owners x = ltb x n && owns (asked n owners [] []) c x && not (inSet (setAt words q) x)
 
--- sets that nobody is in
-abbrev pub nobody : List ℕ
-nobody = empty ∷ []
-
 -- each of the three sets is within what c reaches by the sets of numbers that count for it
 abbrev pub allWithin : State → ℕ → Bool
 allWithin s c =
-    within (setA s) (reaches (asked (s .cpu .n) (s .owners) nobody nobody) c)
+    within (setA s) (reaches (asked (s .cpu .n) (s .owners) [] []) c)
     && within (setJ s) (reaches (asked (s .cpu .n) (s .owners) (s .jumpers) (s .cpu .services)) c)
-    && within (setS s) (reaches (asked (s .cpu .n) (s .owners) (s .writers) nobody) c)
+    && within (setS s) (reaches (asked (s .cpu .n) (s .owners) (s .writers) []) c)
 
--- no set is bad
-abbrev pub allGood : State → Bool
-allGood s =
-    goodSet (s .words) (s .cpu .n) (reg (s .cpu .regs) 1) && goodSet (s .words) (s .cpu .n) (reg (s .cpu .regs) 2)
-    && goodSet (s .words) (s .cpu .n) (reg (s .cpu .regs) 3)
-
+-- the three sets stand at places that a 32-bit number counts
 abbrev pub AllCounted : List ℕ → List ℕ → Type 0
 AllCounted words regs = Counted words (reg regs 1) × Counted words (reg regs 2) × Counted words (reg regs 3)
 
@@ -58,7 +49,7 @@ service-from x h = leb-true isolate x (both (leb isolate x) (ltb x (isolate + se
 
 -- ---- owners and sets, apart from the rest of the state
 
-pub same-owns : (s t : State) (c x : ℕ) → s .cpu .n ≡ t .cpu .n → s .owners ≡ t .owners → owns s c x ≡ owns t c x
+same-owns : (s t : State) (c x : ℕ) → s .cpu .n ≡ t .cpu .n → s .owners ≡ t .owners → owns s c x ≡ owns t c x
 unfolding owns hasOwner ownerAt inMemory
 same-owns s t c x e f = simp (e, f)
 
@@ -74,51 +65,47 @@ module _ (n : ℕ) (owners sets services : List ℕ) (c x : ℕ) (a : Bool) (own
       let e : owns (asked n owners sets services) c x ≡ false = same-owns (asked n owners sets services) (asked n owners [] []) c x refl refl ∙ sym own ∙ h in
       g ∙ ap (λ (k : ℕ). member k c) f ∙ simp e
 
-nobody-at : (x : ℕ) → getD nobody x empty ≡ empty
-nobody-at zero = refl
-nobody-at (suc x) = refl
-
-nobody-reaches : (n : ℕ) (owners : List ℕ) (x : ℕ) → jumpersAt (asked n owners nobody nobody) x ≡ empty
+nobody-reaches : (n : ℕ) (owners : List ℕ) (x : ℕ) → jumpersAt (asked n owners [] []) x ≡ empty
 unfolding jumpersAt
-nobody-reaches n owners x = go (inMemory (asked n owners nobody nobody) x) (isService x)
+nobody-reaches n owners x = go (inMemory (asked n owners [] []) x) (isService x)
   where
-    go : (a b : Bool) → cond a (getD nobody x empty) (cond b (getD nobody (x - isolate) empty) empty) ≡ empty
-    go true b = nobody-at x
-    go false true = nobody-at (x - isolate)
+    go : (a b : Bool) → cond a (getD [] x empty) (cond b (getD [] (x - isolate) empty) empty) ≡ empty
+    go true b = refl
+    go false true = refl
     go false false = refl
 
 module _ (s : State) (c : ℕ) where
   abbrev seen : List ℕ → List ℕ → State
   seen sets services = asked (s .cpu .n) (s .owners) sets services
 
-  reaches-own : (x : ℕ) → reaches (seen nobody nobody) c x ≡ owns s c x
+  reaches-own : (x : ℕ) → reaches (seen [] []) c x ≡ owns s c x
   unfolding mayJump
   reaches-own x =
-      ap (λ (set : ℕ). owns (seen nobody nobody) c x || member set c) (nobody-reaches (s .cpu .n) (s .owners) x)
-      ∙ ap (λ (b : Bool). owns (seen nobody nobody) c x || b) (member-empty c)
-      ∙ or-false (owns (seen nobody nobody) c x)
-      ∙ same-owns (seen nobody nobody) s c x refl refl
+      ap (λ (set : ℕ). owns (seen [] []) c x || member set c) (nobody-reaches (s .cpu .n) (s .owners) x)
+      ∙ ap (λ (b : Bool). owns (seen [] []) c x || b) (member-empty c)
+      ∙ or-false (owns (seen [] []) c x)
+      ∙ same-owns (seen [] []) s c x refl refl
 
   reaches-jump : (x : ℕ) → reaches (seen (s .jumpers) (s .cpu .services)) c x ≡ (owns s c x || mayJump s c x)
   unfolding mayJump jumpersAt inMemory
   reaches-jump x = ap (λ (b : Bool). b || mayJump s c x) (same-owns (seen (s .jumpers) (s .cpu .services)) s c x refl refl)
 
-  reaches-store : (x : ℕ) → reaches (seen (s .writers) nobody) c x ≡ (owns s c x || mayStore s c x)
+  reaches-store : (x : ℕ) → reaches (seen (s .writers) []) c x ≡ (owns s c x || mayStore s c x)
   unfolding mayJump jumpersAt mayStore writersAt inMemory
   reaches-store x =
-      ap (λ (b : Bool). b || mayJump (seen (s .writers) nobody) c x) (same-owns (seen (s .writers) nobody) s c x refl refl)
+      ap (λ (b : Bool). b || mayJump (seen (s .writers) []) c x) (same-owns (seen (s .writers) []) s c x refl refl)
       ∙ ap (λ (set : ℕ). owns s c x || member set c) (go (ltb x (s .cpu .n)) (isService x))
     where
-      go : (a b : Bool) → cond a (getD (s .writers) x empty) (cond b (getD nobody (x - isolate) empty) empty) ≡ cond a (getD (s .writers) x empty) empty
+      go : (a b : Bool) → cond a (getD (s .writers) x empty) (cond b (getD [] (x - isolate) empty) empty) ≡ cond a (getD (s .writers) x empty) empty
       go true b = refl
-      go false true = nobody-at (x - isolate)
+      go false true = refl
       go false false = refl
 
-  pub sets-within : allWithin s c ≡ setsWithin s c
+  sets-within : allWithin s c ≡ setsWithin s c
   unfolding setsWithin
   sets-within = simp (fun-ext reaches-own, fun-ext reaches-jump, fun-ext reaches-store)
 
-  pub leaves-returns : leaves (s .words) (reg (s .cpu .regs) 1) (s .cpu .n) c (s .owners) (reg (s .cpu .regs) 15) ≡ returns s c
+  leaves-returns : leaves (s .words) (reg (s .cpu .regs) 1) (s .cpu .n) c (s .owners) (reg (s .cpu .regs) 15) ≡ returns s c
   unfolding returns inMemory
   leaves-returns =
       ap (λ (b : Bool). ltb (reg (s .cpu .regs) 15) (s .cpu .n) && b && not (inSet (setA s) (reg (s .cpu .regs) 15)))
@@ -127,14 +114,10 @@ module _ (s : State) (c : ℕ) where
 -- ---- each return of isolate's checks, from what the code's tests say
 
 -- the code's first test of isolate has the result t, and so on
-module _ (s : State) (c : ℕ) (t : Bool) (good : t ≡ allGood s) where
-  good-sets : (b : Bool) → t ≡ b → goodSets s ≡ b
-  unfolding goodSets
-  good-sets b h = sym good ∙ h
-
+module _ (s : State) (c : ℕ) (t : Bool) (good : t ≡ goodSets s) where
   pub bad-sets : not t ≡ true → answer.bad-set ≡ isolateVerdict s c
   unfolding isolateVerdict
-  bad-sets h = simp (good-sets false (not-true t h))
+  bad-sets h = simp (← good, not-true t h)
 
   module _ (is-good : not t ≡ false) (k : ℕ) (count : k ≡ getD (s .words) (reg (s .cpu .regs) 1) 0) where
     is-empty : (b : Bool) → eqb k 0 ≡ b → isEmpty (setA s) ≡ b
@@ -142,19 +125,19 @@ module _ (s : State) (c : ℕ) (t : Bool) (good : t ≡ allGood s) where
 
     pub no-addresses : k ≡ 0 → answer.empty-set ≡ isolateVerdict s c
     unfolding isolateVerdict
-    no-addresses h = simp (good-sets true (not-false t is-good), is-empty true (eq-eqb k 0 h))
+    no-addresses h = simp (sym good ∙ not-false t is-good, is-empty true (eq-eqb k 0 h))
 
     module _ (some : k ≡ 0 → ⊥) (u : Bool) (inside : u ≡ allWithin s c) where
       pub not-within : not u ≡ true → answer.not-within ≡ isolateVerdict s c
       unfolding isolateVerdict
       not-within h =
-          simp (good-sets true (not-false t is-good), is-empty false (ne-eqb k 0 some), sym (sets-within s c) ∙ sym inside ∙ not-true u h)
+          simp (sym good ∙ not-false t is-good, is-empty false (ne-eqb k 0 some), sym (sets-within s c) ∙ sym inside ∙ not-true u h)
 
       module _ (is-inside : not u ≡ false) (v : Bool) (back : v ≡ leaves (s .words) (reg (s .cpu .regs) 1) (s .cpu .n) c (s .owners) (reg (s .cpu .regs) 15)) where
         last : (b : Bool) → v ≡ b → isolateVerdict s c ≡ cond b (cond (eqb (s .cpu .next) numbers) answer.no-number answer.done) answer.no-return
         unfolding isolateVerdict
         last b h =
-            simp (good-sets true (not-false t is-good), is-empty false (ne-eqb k 0 some), sym (sets-within s c) ∙ sym inside ∙ not-false u is-inside, sym (leaves-returns s c) ∙ sym back ∙ h)
+            simp (sym good ∙ not-false t is-good, is-empty false (ne-eqb k 0 some), sym (sets-within s c) ∙ sym inside ∙ not-false u is-inside, sym (leaves-returns s c) ∙ sym back ∙ h)
 
         pub no-return : not v ≡ true → answer.no-return ≡ isolateVerdict s c
         no-return h = sym (last false (not-true v h))

@@ -2,3 +2,4 @@ pub mod Outcomes
 pub mod SetLaws
 pub mod TagLaws
 pub mod CallLaws
+pub mod Promises

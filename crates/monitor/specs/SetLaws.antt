@@ -1,13 +1,13 @@
 -- Laws of sets of addresses by which the code reads them, pair by pair and address by address.
-use mathlib.Core.Path.{_≡_, refl, sym, ap, _∙_, subst, fun-ext}
-use mathlib.Core.Bool.{Bool, true, false, cond, _&&_, _||_, not, or-false, and-false}
+use mathlib.Core.Path.{_≡_, refl, sym, ap, _∙_}
+use mathlib.Core.Bool.{Bool, true, false, _&&_, _||_, not, and-false}
 use mathlib.Core.List.{List, [], _∷_}
 use Prim.Native.Nat.{ℕ, zero, suc, _+_, _-_, _*_, _/_, _<_, _≤_}
 use native.Mathlib.Nat.{not-suc-le-zero}
 use native.Mathlib.Numerals.{add-one}
 use native.Mathlib.Omega.{arith}
 use native.Mathlib.Decide.{ℕ-discrete}
-use borrow.Author.Tests.{lt-ltb, le-ltb, le-leb, lt-leb, ltb-true, leb-true, ne-eqb, not-true, not-false}
+use borrow.Author.Tests.{lt-ltb, le-ltb, le-leb, lt-leb, leb-true, ne-eqb, not-true, not-false}
 use lib.Dec.{ltb, leb, eqb}
 use lib.ListN.{getD}
 use Rattle.common.specs.Tests.{both}
@@ -68,7 +68,7 @@ module _ {every : List Pair → Bool} {each : Pair → Bool} (law : Every every 
   unfolding setAt
   every-all j e h = ap (λ (k : ℕ). every (pairsAt words (q + 1) k)) (sym e) ∙ h
 
-abbrev pub isOrdered : Pair → Bool
+abbrev isOrdered : Pair → Bool
 isOrdered p = ltb (p .first) (p .past)
 
 pub every-ordered : Every ordered isOrdered
@@ -84,7 +84,7 @@ every-misses x = record { none = refl; more = λ p ps. not-or (inSet ps x) (inPa
     not-or true b = refl
     not-or false b = refl
 
-abbrev pub passes : (ℕ → Bool) → Pair → Bool
+abbrev passes : (ℕ → Bool) → Pair → Bool
 passes test p = allFrom test (p .first) (p .past - p .first)
 
 pub every-within : (test : ℕ → Bool) → Every (λ ps. within ps test) (passes test)

@@ -40,7 +40,7 @@ getD-from f k (x ∷ xs) (suc i) h = getD-from f (suc k) xs i (le-of-suc-le-suc 
 abbrev changeAt : (ℕ → Bool) → (ℕ → ℕ) → ℕ → ℕ → ℕ
 changeAt t g x v = cond (t x) (g v) v
 
-abbrev pub changed : (ℕ → Bool) → (ℕ → ℕ) → List ℕ → List ℕ
+abbrev changed : (ℕ → Bool) → (ℕ → ℕ) → List ℕ → List ℕ
 changed t g l = mapFrom (changeAt t g) 0 l
 
 module _ (g : ℕ → ℕ) (l : List ℕ) where
@@ -85,7 +85,7 @@ module _ (g : ℕ → ℕ) (l : List ℕ) where
 -- ---- one pair, walked from its first place on
 
 -- the places below n from first on, before x
-abbrev pub walked : ℕ → ℕ → ℕ → ℕ → Bool
+abbrev walked : ℕ → ℕ → ℕ → ℕ → Bool
 walked n first x = below n (record { first = first; past = x } ∷ [])
 
 is-walked : (n first x i : ℕ) → i < n → first ≤ i → i < x → walked n first x i ≡ true

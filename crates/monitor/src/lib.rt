@@ -16,6 +16,9 @@ pub const ADD_JUMP_TARGET: u32 = 4097;
 
 pub const ADD_STORE_TARGET: u32 = 4098;
 
+// Compartment numbers are below this.
+const NUMBERS: u32 = 64;
+
 // The answer, and the sets I of the three services.
 pub struct Isolated {
     pub answer: u32,
@@ -36,14 +39,15 @@ fn all_within(
     requires { ⌜ AllCounted (now words) (now regs) ⌝ }
     ensures { λ r. ⌜ r ≡ allWithin (called (now (regs .entry)) n caller 0 (now (services .entry)) (now (words .entry)) (now (owners .entry)) (now (jumpers .entry)) (now (writers .entry))) caller ⌝ }
 {
-    let nobody = [0u64; 1];
-    if !sets::within(words, regs[1], n, caller, owners, &nobody, &nobody) {
+    // no sets: nobody is in them
+    let none = &services[..0];
+    if !sets::within(words, regs[1], n, caller, owners, none, none) {
         return false;
     }
     if !sets::within(words, regs[2], n, caller, owners, jumpers, services) {
         return false;
     }
-    sets::within(words, regs[3], n, caller, owners, writers, &nobody)
+    sets::within(words, regs[3], n, caller, owners, writers, none)
 }
 
 // The checks of isolate in the sheet's order.
@@ -72,7 +76,7 @@ fn isolate_verdict(
     if !sets::returns(words, regs[1], n, caller, owners, regs[15]) {
         return answers::NO_RETURN;
     }
-    if next == 64 {
+    if next == NUMBERS {
         return answers::NO_NUMBER;
     }
     answers::DONE

@@ -1,6 +1,6 @@
 // Sets of addresses where they stand in memory, "a count k, then k pairs (first, past)", and whether a compartment may give them away.
 ghost use mathlib.Core.Path.{_≡_};
-ghost use mathlib.Core.Bool.{_&&_, _||_, not};
+ghost use mathlib.Core.Bool.{_&&_, not};
 ghost use mathlib.Core.List.{[]};
 ghost use Prim.Native.Nat.{_+_, _-_, _*_, _<_};
 ghost use Rattle.common.specs.Services.{isService};
@@ -111,7 +111,7 @@ fn is_service(x: u32) -> bool
     ISOLATE <= x
 }
 
-// Whether the caller owns x, a memory word or a service.
+// Whether the caller owns x, a memory word or a service. The compartments 1, 2 and 3 own the services.
 pub fn owns(n: u32, caller: u32, owners: &[u32], x: u32) -> bool
     ensures { λ r. ⌜ r ≡ owns (asked n (now (owners .entry)) [] []) caller x ⌝ }
 {

@@ -1,32 +1,24 @@
-use Rattle.monitor.specs.SetLaws.{stops-first, stops-second, third}
+-- The three sets, one after the other.
 use borrow.Author.Needs.{needs}
+use Rattle.monitor.specs.SetLaws.{stops-first, stops-second, third}
 use Rattle.monitor.proofs.sets.all_good.Statement.{statement}
 use Rattle.monitor.proofs.sets.all_good.Tie as tie
-use Rattle.monitor.proofs.sets.all_good.Reads as reads
-use Rattle.monitor.proofs.sets.all_good.Lts as lts
-use Rattle.monitor.proofs.sets.good.Reads as good-reads
 
--- src/sets.rt:68:9
 good-requires : tie.Need-good-requires
 good-requires c κs = search needs
 
--- src/sets.rt:69:9
 returns : tie.Need-returns
 returns c = stops-first _ _ _ _ (c .before .good2 .ensures) (c .if1 .taken)
 
--- src/sets.rt:71:9
 good-requires-2 : tie.Need-good-requires-2
 good-requires-2 c κs = search needs
 
--- src/sets.rt:72:9
 returns-2 : tie.Need-returns-2
 returns-2 c = stops-second _ _ _ _ (c .before .before .before .good2 .ensures) (c .before .before .if1 .left) _ (c .before .good3 .ensures) (c .if2 .taken)
 
--- src/sets.rt:74:5
 good-requires-3 : tie.Need-good-requires-3
 good-requires-3 c κs = search needs
 
--- src/sets.rt:65:1
 returns-3 : tie.Need-returns-3
 returns-3 c = third _ _ _ _ (c .before .before .before .before .good2 .ensures) (c .before .before .before .if1 .left) _ (c .before .before .good3 .ensures) (c .before .if2 .left) _ (c .good4 .ensures)
 

@@ -1,18 +1,14 @@
+-- The loop has passed the pairs before j, and x is in none of them.
 use mathlib.Core.Bool.{true, not}
-use borrow.Author.Tests.{not-true, not-false}
-use Rattle.monitor.specs.SetLaws.{every-misses, every-none, every-more, every-not, every-all}
 use mathlib.Core.Path.{_≡_, sym, ap, _∙_}
 use Prim.Native.Nat.{_+_, _-_, _≤_}
 use native.Mathlib.Omega.{arith}
 use borrow.Author.Needs.{needs}
-use Rattle.common.specs.AddressSets.{pairsAt, ordered, inSet}
+use borrow.Author.Tests.{not-true, not-false}
+use Rattle.common.specs.AddressSets.{pairsAt, inSet}
+use Rattle.monitor.specs.SetLaws.{every-misses, every-none, every-more, every-not, every-all}
 use Rattle.monitor.proofs.sets.has.Statement.{statement}
 use Rattle.monitor.proofs.sets.has.Tie as tie
-use Rattle.monitor.proofs.sets.has.Reads as reads
-use Rattle.monitor.proofs.sets.has.Lts as lts
-use Rattle.memory.proofs.word_at.Reads as word-at-reads
-use Rattle.monitor.proofs.sets.in_pair.Reads as in-pair-reads
-use Rattle.monitor.proofs.sets.pair_at.Reads as pair-at-reads
 
 abbrev Inv-loop : tie.InvT-loop
 Inv-loop words q x k j₀ j = (j ≤ k) × (not (inSet (pairsAt words (q + 1) j) x) ≡ true)
@@ -20,39 +16,30 @@ Inv-loop words q x k j₀ j = (j ≤ k) × (not (inSet (pairsAt words (q + 1) j)
 abbrev μ-loop : tie.MeasureT-loop
 μ-loop words q x k j₀ j = k - j
 
--- src/sets.rt:88:9
 word-at-requires : tie.Need-word-at-requires Inv-loop μ-loop
 word-at-requires c κs = search needs
 
--- src/sets.rt:90:5
 loop-holds : tie.Need-loop-holds Inv-loop μ-loop
 loop-holds c = (omega arith, every-none (every-misses _) _ _)
 
--- src/sets.rt:91:13
 pair-at-requires : tie.Need-pair-at-requires Inv-loop μ-loop
 pair-at-requires c κs = omega arith
 
--- src/sets.rt:92:12
 in-pair-requires : tie.Need-in-pair-requires Inv-loop μ-loop
 in-pair-requires c κs = search needs
 
--- src/sets.rt:93:13
 returns : tie.Need-returns Inv-loop μ-loop
 returns c = sym (not-false _ (every-not (every-misses _) _ _ _ _ (c .before .before .pair-at .ensures) (omega arith) (ap not (sym (c .before .in-pair .ensures) ∙ c .if1 .taken))))
 
--- src/sets.rt:95:9
 add-j : tie.Need-add-j Inv-loop μ-loop
 add-j c = omega arith
 
--- src/sets.rt:90:5
 loop-less : tie.Need-loop-less Inv-loop μ-loop
 loop-less c = omega arith
 
--- src/sets.rt:90:5
 loop-again : tie.Need-loop-again Inv-loop μ-loop
 loop-again c = (omega arith, every-more (every-misses _) _ _ _ _ (c .before .before .pair-at .ensures) (ap not (sym (c .before .in-pair .ensures) ∙ c .if1 .left)) (c .before .before .before .before .loop .inv .1))
 
--- src/sets.rt:84:1
 returns-2 : tie.Need-returns-2 Inv-loop μ-loop
 returns-2 c = sym (not-true _ (every-all (every-misses _) _ _ _ (omega arith) (c .before .loop .inv .1)))
 

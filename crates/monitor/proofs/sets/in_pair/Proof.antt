@@ -1,14 +1,11 @@
+-- A pair's two tests.
 use borrow.Author.Tests.{lt-leb, le-leb}
 use Rattle.monitor.proofs.sets.in_pair.Statement.{statement}
 use Rattle.monitor.proofs.sets.in_pair.Tie as tie
-use Rattle.monitor.proofs.sets.in_pair.Reads as reads
-use Rattle.monitor.proofs.sets.in_pair.Lts as lts
 
--- src/sets.rt:78:9
 returns : tie.Need-returns
 returns c = simp (lt-leb _ _ (c .if1 .taken))
 
--- src/sets.rt:74:1
 returns-2 : tie.Need-returns-2
 returns-2 c = simp (le-leb _ _ (c .before .if1 .left))
 

@@ -1,18 +1,15 @@
-use native.Mathlib.Omega.{arith}
+-- The services' two ends.
 use mathlib.Core.Bool.{and-false, and-true}
+use native.Mathlib.Omega.{arith}
 use borrow.Author.Tests.{le-ltb, lt-ltb}
 use Rattle.common.specs.Services.{isService, serviceCount}
 use Rattle.monitor.proofs.sets.is_service.Statement.{statement}
 use Rattle.monitor.proofs.sets.is_service.Tie as tie
-use Rattle.monitor.proofs.sets.is_service.Reads as reads
-use Rattle.monitor.proofs.sets.is_service.Lts as lts
 
--- src/sets.rt:107:9
 returns : tie.Need-returns
 unfolding isService serviceCount
 returns c = simp (le-ltb _ 4099 (c .if1 .taken), and-false)
 
--- src/sets.rt:103:1
 returns-2 : tie.Need-returns-2
 unfolding isService serviceCount
 returns-2 c = simp (lt-ltb (c .before .args .x) 4099 (omega arith), and-true)

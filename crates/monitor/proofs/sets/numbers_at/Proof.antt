@@ -1,43 +1,32 @@
+-- A word's set, a service's set, or the empty one.
 use mathlib.Core.Path.{sym, _∙_}
-use native.Mathlib.Omega.{arith}
+use borrow.Author.Needs.{needs}
 use borrow.Author.Tests.{le-ltb, lt-ltb, not-true, not-false}
 use Rattle.rules.specs.State.{jumpersAt, inMemory}
 use Rattle.monitor.specs.CallLaws.{service-from}
-use borrow.Author.Needs.{needs}
 use Rattle.monitor.proofs.sets.numbers_at.Statement.{statement}
 use Rattle.monitor.proofs.sets.numbers_at.Tie as tie
-use Rattle.monitor.proofs.sets.numbers_at.Reads as reads
-use Rattle.monitor.proofs.sets.numbers_at.Lts as lts
-use Rattle.memory.proofs.set_at.Reads as set-at-reads
-use Rattle.monitor.proofs.sets.is_service.Reads as is-service-reads
 
--- src/sets.rt:130:9
 set-at-requires : tie.Need-set-at-requires
 set-at-requires c κs = search needs
 
--- src/sets.rt:130:9
 returns : tie.Need-returns
 unfolding jumpersAt inMemory
 returns c = simp (c .set-at .ensures, lt-ltb _ _ (c .before .if1 .taken))
 
--- src/sets.rt:132:9
 is-service-requires : tie.Need-is-service-requires
 is-service-requires c κs = search needs
 
--- src/sets.rt:133:9
 returns-2 : tie.Need-returns-2
 unfolding jumpersAt inMemory
 returns-2 c = simp (le-ltb _ _ (c .before .before .if1 .left), sym (c .before .is-service .ensures) ∙ not-true _ (c .if2 .taken))
 
--- src/sets.rt:135:22
 sub-set-at : tie.Need-sub-set-at
 sub-set-at c = service-from _ (sym (c .before .is-service .ensures) ∙ not-false _ (c .if2 .left))
 
--- src/sets.rt:135:5
 set-at-requires-2 : tie.Need-set-at-requires-2
 set-at-requires-2 c κs = search needs
 
--- src/sets.rt:126:1
 returns-3 : tie.Need-returns-3
 unfolding jumpersAt inMemory
 returns-3 c = simp (c .set-at2 .ensures, le-ltb _ _ (c .before .before .before .if1 .left), sym (c .before .before .is-service .ensures) ∙ not-false _ (c .before .if2 .left))

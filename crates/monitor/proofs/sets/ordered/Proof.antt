@@ -1,17 +1,14 @@
+-- The loop has passed the pairs before j, and each is in order.
 use mathlib.Core.Bool.{true}
-use borrow.Author.Tests.{le-ltb, lt-ltb}
-use Rattle.monitor.specs.SetLaws.{pairOf, every-ordered, every-none, every-more, every-not, every-all}
-use mathlib.Core.Path.{_≡_, sym, ap, _∙_}
+use mathlib.Core.Path.{_≡_, sym}
 use Prim.Native.Nat.{_+_, _-_, _≤_}
 use native.Mathlib.Omega.{arith}
 use borrow.Author.Needs.{needs}
-use Rattle.common.specs.AddressSets.{pairsAt, ordered, inSet}
+use borrow.Author.Tests.{le-ltb, lt-ltb}
+use Rattle.common.specs.AddressSets.{pairsAt, ordered}
+use Rattle.monitor.specs.SetLaws.{every-ordered, every-none, every-more, every-not, every-all}
 use Rattle.monitor.proofs.sets.ordered.Statement.{statement}
 use Rattle.monitor.proofs.sets.ordered.Tie as tie
-use Rattle.monitor.proofs.sets.ordered.Reads as reads
-use Rattle.monitor.proofs.sets.ordered.Lts as lts
-use Rattle.memory.proofs.word_at.Reads as word-at-reads
-use Rattle.monitor.proofs.sets.pair_at.Reads as pair-at-reads
 
 abbrev Inv-loop : tie.InvT-loop
 Inv-loop words q k j₀ j = (j ≤ k) × (ordered (pairsAt words (q + 1) j) ≡ true)
@@ -19,35 +16,27 @@ Inv-loop words q k j₀ j = (j ≤ k) × (ordered (pairsAt words (q + 1) j) ≡ 
 abbrev μ-loop : tie.MeasureT-loop
 μ-loop words q k j₀ j = k - j
 
--- src/sets.rt:35:9
 word-at-requires : tie.Need-word-at-requires Inv-loop μ-loop
 word-at-requires c κs = search needs
 
--- src/sets.rt:37:5
 loop-holds : tie.Need-loop-holds Inv-loop μ-loop
 loop-holds c = (omega arith, every-none every-ordered _ _)
 
--- src/sets.rt:38:13
 pair-at-requires : tie.Need-pair-at-requires Inv-loop μ-loop
 pair-at-requires c κs = omega arith
 
--- src/sets.rt:40:13
 returns : tie.Need-returns Inv-loop μ-loop
 returns c = sym (every-not every-ordered _ _ _ _ (c .before .before .pair-at .ensures) (omega arith) (le-ltb _ _ (c .if1 .taken)))
 
--- src/sets.rt:42:9
 add-j : tie.Need-add-j Inv-loop μ-loop
 add-j c = omega arith
 
--- src/sets.rt:37:5
 loop-less : tie.Need-loop-less Inv-loop μ-loop
 loop-less c = omega arith
 
--- src/sets.rt:37:5
 loop-again : tie.Need-loop-again Inv-loop μ-loop
 loop-again c = (omega arith, every-more every-ordered _ _ _ _ (c .before .before .pair-at .ensures) (lt-ltb _ _ (c .if1 .left)) (c .before .before .before .before .loop .inv .1))
 
--- src/sets.rt:31:1
 returns-2 : tie.Need-returns-2 Inv-loop μ-loop
 returns-2 c = sym (every-all every-ordered _ _ _ (omega arith) (c .before .loop .inv .1))
 

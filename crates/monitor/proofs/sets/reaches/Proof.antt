@@ -1,30 +1,21 @@
-use Rattle.monitor.specs.CallLaws.{reached, reached-by}
+-- By owning x, or by the set at x.
 use borrow.Author.Needs.{needs}
+use Rattle.monitor.specs.CallLaws.{reached, reached-by}
 use Rattle.monitor.proofs.sets.reaches.Statement.{statement}
 use Rattle.monitor.proofs.sets.reaches.Tie as tie
-use Rattle.monitor.proofs.sets.reaches.Reads as reads
-use Rattle.monitor.proofs.sets.reaches.Lts as lts
-use Rattle.compartments.proofs.Set.contains.Reads as contains-reads
-use Rattle.monitor.proofs.sets.numbers_at.Reads as numbers-at-reads
-use Rattle.monitor.proofs.sets.owns.Reads as owns-reads
 
--- src/sets.rt:136:8
 owns-requires : tie.Need-owns-requires
 owns-requires c κs = search needs
 
--- src/sets.rt:137:9
 returns : tie.Need-returns
 returns c = reached _ _ _ _ _ _ _ (c .before .owns .ensures) (c .if1 .taken)
 
--- src/sets.rt:139:9
 numbers-at-requires : tie.Need-numbers-at-requires
 numbers-at-requires c κs = search needs
 
--- src/sets.rt:139:5
 contains-requires : tie.Need-contains-requires
 contains-requires c κs = search needs
 
--- src/sets.rt:133:1
 returns-2 : tie.Need-returns-2
 returns-2 c = reached-by _ _ _ _ _ _ _ (c .before .before .before .owns .ensures) (c .before .before .if1 .left) _ (c .before .numbers-at .ensures) _ (c .contains .ensures)
 

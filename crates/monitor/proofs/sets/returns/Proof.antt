@@ -1,30 +1,22 @@
+-- Word, owner, and not in the set.
 use mathlib.Core.Path.{sym, _∙_}
-use borrow.Author.Tests.{le-ltb, lt-ltb, not-true, not-false}
 use borrow.Author.Needs.{needs}
+use borrow.Author.Tests.{le-ltb, lt-ltb, not-true, not-false}
 use Rattle.monitor.proofs.sets.returns.Statement.{statement}
 use Rattle.monitor.proofs.sets.returns.Tie as tie
-use Rattle.monitor.proofs.sets.returns.Reads as reads
-use Rattle.monitor.proofs.sets.returns.Lts as lts
-use Rattle.monitor.proofs.sets.has.Reads as has-reads
-use Rattle.monitor.proofs.sets.owns.Reads as owns-reads
 
--- src/sets.rt:187:9
 returns : tie.Need-returns
 returns c = simp (le-ltb _ _ (c .if1 .taken))
 
--- src/sets.rt:189:9
 owns-requires : tie.Need-owns-requires
 owns-requires c κs = search needs
 
--- src/sets.rt:190:9
 returns-2 : tie.Need-returns-2
 returns-2 c = simp (lt-ltb _ _ (c .before .before .if1 .left), sym (c .before .owns .ensures) ∙ not-true _ (c .if2 .taken))
 
--- src/sets.rt:192:6
 has-requires : tie.Need-has-requires
 has-requires c κs = search needs
 
--- src/sets.rt:182:1
 returns-3 : tie.Need-returns-3
 returns-3 c = simp (lt-ltb _ _ (c .before .before .before .if1 .left), sym (c .before .before .owns .ensures) ∙ not-false _ (c .before .if2 .left), c .has .ensures)
 

@@ -1,19 +1,15 @@
-use mathlib.Core.Path.{_≡_, sym, ap, _∙_}
+-- The loop has passed the pairs before j, and the caller reaches all of each.
 use mathlib.Core.Bool.{true}
+use mathlib.Core.Path.{_≡_, sym, _∙_}
 use Prim.Native.Nat.{_+_, _-_, _≤_}
 use native.Mathlib.Omega.{arith}
 use borrow.Author.Needs.{needs}
 use borrow.Author.Tests.{not-true, not-false}
 use Rattle.common.specs.AddressSets.{pairsAt, within}
-use Rattle.monitor.specs.SetLaws.{every-within, every-none, every-more, every-not, every-all}
 use Rattle.monitor.specs.CallLaws.{asked, reaches}
+use Rattle.monitor.specs.SetLaws.{every-within, every-none, every-more, every-not, every-all}
 use Rattle.monitor.proofs.sets.within.Statement.{statement}
 use Rattle.monitor.proofs.sets.within.Tie as tie
-use Rattle.monitor.proofs.sets.within.Reads as reads
-use Rattle.monitor.proofs.sets.within.Lts as lts
-use Rattle.memory.proofs.word_at.Reads as word-at-reads
-use Rattle.monitor.proofs.sets.pair_at.Reads as pair-at-reads
-use Rattle.monitor.proofs.sets.reaches_all.Reads as reaches-all-reads
 
 abbrev Inv-loop : tie.InvT-loop
 Inv-loop words q n caller owners sets services k j₀ j = (j ≤ k) × (within (pairsAt words (q + 1) j) (reaches (asked n owners sets services) caller) ≡ true)
@@ -21,39 +17,30 @@ Inv-loop words q n caller owners sets services k j₀ j = (j ≤ k) × (within (
 abbrev μ-loop : tie.MeasureT-loop
 μ-loop words q n caller owners sets services k j₀ j = k - j
 
--- src/sets.rt:169:9
 word-at-requires : tie.Need-word-at-requires Inv-loop μ-loop
 word-at-requires c κs = search needs
 
--- src/sets.rt:171:5
 loop-holds : tie.Need-loop-holds Inv-loop μ-loop
 loop-holds c = (omega arith, every-none (every-within _) _ _)
 
--- src/sets.rt:172:13
 pair-at-requires : tie.Need-pair-at-requires Inv-loop μ-loop
 pair-at-requires c κs = omega arith
 
--- src/sets.rt:173:13
 reaches-all-requires : tie.Need-reaches-all-requires Inv-loop μ-loop
 reaches-all-requires c κs = search needs
 
--- src/sets.rt:174:13
 returns : tie.Need-returns Inv-loop μ-loop
 returns c = sym (every-not (every-within _) _ _ _ _ (c .before .before .pair-at .ensures) (omega arith) (sym (c .before .reaches-all .ensures) ∙ not-true _ (c .if1 .taken)))
 
--- src/sets.rt:176:9
 add-j : tie.Need-add-j Inv-loop μ-loop
 add-j c = omega arith
 
--- src/sets.rt:171:5
 loop-less : tie.Need-loop-less Inv-loop μ-loop
 loop-less c = omega arith
 
--- src/sets.rt:171:5
 loop-again : tie.Need-loop-again Inv-loop μ-loop
 loop-again c = (omega arith, every-more (every-within _) _ _ _ _ (c .before .before .pair-at .ensures) (sym (c .before .reaches-all .ensures) ∙ not-false _ (c .if1 .left)) (c .before .before .before .before .loop .inv .1))
 
--- src/sets.rt:165:1
 returns-2 : tie.Need-returns-2 Inv-loop μ-loop
 returns-2 c = sym (every-all (every-within _) _ _ _ (omega arith) (c .before .loop .inv .1))
 

@@ -1,22 +1,18 @@
-use mathlib.Core.Path.{_≡_, refl, ap, _∙_}
+-- The number has joined at the pairs before j.
 use mathlib.Core.List.{[], _∷_}
+use mathlib.Core.Path.{_≡_, refl, ap, _∙_}
 use Prim.Native.Nat.{_+_, _-_, _≤_}
 use native.Mathlib.Omega.{arith}
-use borrow.Author.Needs.{needs}
 use lib.ListN.{length}
+use borrow.Author.Needs.{needs}
 use Rattle.common.specs.AddressSets.{pairsAt}
-use Rattle.rules.specs.Compartments.{insert}
 use Rattle.rules.specs.CompartmentLaws.{insert-twice}
+use Rattle.rules.specs.Compartments.{insert}
 use Rattle.rules.specs.Step.{joined}
 use Rattle.monitor.specs.SetLaws.{pairOf}
 use Rattle.monitor.specs.TagLaws.{set-starts, set-goes, set-ends}
 use Rattle.monitor.proofs.tags.join.Statement.{statement}
 use Rattle.monitor.proofs.tags.join.Tie as tie
-use Rattle.monitor.proofs.tags.join.Reads as reads
-use Rattle.monitor.proofs.tags.join.Lts as lts
-use Rattle.memory.proofs.word_at.Reads as word-at-reads
-use Rattle.monitor.proofs.sets.pair_at.Reads as pair-at-reads
-use Rattle.monitor.proofs.tags.join_pair.Reads as join-pair-reads
 
 abbrev Inv-loop : tie.InvT-loop
 Inv-loop sets₀ words n q number k j₀ sets j = (j ≤ k) × (length sets ≡ length sets₀) × (sets ≡ joined n (pairsAt words (q + 1) j) number sets₀)
@@ -24,36 +20,31 @@ Inv-loop sets₀ words n q number k j₀ sets j = (j ≤ k) × (length sets ≡ 
 abbrev μ-loop : tie.MeasureT-loop
 μ-loop sets₀ words n q number k j₀ sets j = k - j
 
--- src/tags.rt:75:9
 word-at-requires : tie.Need-word-at-requires Inv-loop μ-loop
 word-at-requires c κs = search needs
 
--- src/tags.rt:77:5
 loop-holds : tie.Need-loop-holds Inv-loop μ-loop
 unfolding joined
-loop-holds c = let g = c .before .before .before .args in
+loop-holds c =
+    let g = c .before .before .before .args in
     (omega arith, refl, set-starts (λ v. insert v (g .number)) (λ v. insert-twice v (g .number)) _ _ _ _)
 
--- src/tags.rt:78:28
 pair-at-requires : tie.Need-pair-at-requires Inv-loop μ-loop
 pair-at-requires c κs = omega arith
 
--- src/tags.rt:78:9
 join-pair-requires : tie.Need-join-pair-requires Inv-loop μ-loop
 join-pair-requires c κs = search needs
 
--- src/tags.rt:79:9
 add-j : tie.Need-add-j Inv-loop μ-loop
 add-j c = omega arith
 
--- src/tags.rt:77:5
 loop-less : tie.Need-loop-less Inv-loop μ-loop
 loop-less c = omega arith
 
--- src/tags.rt:77:5
 loop-again : tie.Need-loop-again Inv-loop μ-loop
 unfolding joined
-loop-again c = let g = c .before .before .before .before .before .before .before .before .before .before .args in
+loop-again c =
+    let g = c .before .before .before .before .before .before .before .before .before .before .args in
     let x = c .before .before .before .before .before .before .loop in
     let f = c .before .before .join-pair in
     let p = pairOf (c .before .before .before .pair-at .result) in (
@@ -63,14 +54,13 @@ loop-again c = let g = c .before .before .before .before .before .before .before
           ∙ set-goes (λ v. insert v (g .number)) (λ v. insert-twice v (g .number)) (g .sets .now) (g .n) (g .words .now) (g .q) (x .j) p (c .before .before .before .pair-at .ensures),
     )
 
--- src/tags.rt:71:1
 same-length : tie.Need-same-length Inv-loop μ-loop
 same-length c = omega arith
 
--- src/tags.rt:71:1
 returns : tie.Need-returns Inv-loop μ-loop
 unfolding joined
-returns c = let g = c .before .before .before .before .before .args in
+returns c =
+    let g = c .before .before .before .before .before .args in
     let x = c .before .loop in
     x .inv .2 ∙ set-ends (λ v. insert v (g .number)) (λ v. insert-twice v (g .number)) (g .sets .now) (g .n) (g .words .now) (g .q) (x .j) (omega arith)
 

@@ -1,42 +1,31 @@
-use mathlib.Core.Path.{sym, ap, _∙_}
+-- Beyond the end of the memory there is no set to change.
+use mathlib.Core.Path.{sym}
 use lib.Seq.{set-out}
 use borrow.Author.Needs.{needs}
 use Rattle.monitor.proofs.tags.join_at.Statement.{statement}
 use Rattle.monitor.proofs.tags.join_at.Tie as tie
-use Rattle.monitor.proofs.tags.join_at.Reads as reads
-use Rattle.monitor.proofs.tags.join_at.Lts as lts
-use Rattle.compartments.proofs.Set.insert.Reads as insert-reads
-use Rattle.memory.proofs.set_at.Reads as set-at-reads
 
--- src/tags.rt:108:19
 set-at-requires : tie.Need-set-at-requires
 set-at-requires c κs = search needs
 
--- src/tags.rt:108:9
 insert-requires : tie.Need-insert-requires
 insert-requires c κs = search needs
 
--- src/tags.rt:111:9
 mul-sets : tie.Need-mul-sets
 mul-sets c = search needs
 
--- src/tags.rt:111:9
 slice-write-sets : tie.Need-slice-write-sets
 slice-write-sets c = search needs
 
--- src/tags.rt:105:1
 same-length : tie.Need-same-length
 same-length c = search needs
 
--- src/tags.rt:105:1
 returns : tie.Need-returns
 returns c = simp (c .before .insert .ensures, c .before .before .set-at .ensures)
 
--- src/tags.rt:105:1
 same-length-2 : tie.Need-same-length-2
 same-length-2 c = search needs
 
--- src/tags.rt:105:1
 returns-2 : tie.Need-returns-2
 returns-2 c = sym (set-out _ _ _ (c .if1 .left))
 

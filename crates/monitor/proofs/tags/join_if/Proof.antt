@@ -1,20 +1,15 @@
-use borrow.Author.Tests.{not-true, not-false}
+-- Joined or left.
 use borrow.Author.Needs.{needs}
+use borrow.Author.Tests.{not-true, not-false}
 use Rattle.monitor.proofs.tags.join_if.Statement.{statement}
 use Rattle.monitor.proofs.tags.join_if.Tie as tie
-use Rattle.monitor.proofs.tags.join_if.Reads as reads
-use Rattle.monitor.proofs.tags.join_if.Lts as lts
-use Rattle.compartments.proofs.Set.insert.Reads as insert-reads
 
--- src/tags.rt:87:9
 returns : tie.Need-returns
 returns c = simp (not-true (c .before .args .joins) (c .if1 .taken))
 
--- src/tags.rt:89:9
 insert-requires : tie.Need-insert-requires
 insert-requires c κs = search needs
 
--- src/tags.rt:83:1
 returns-2 : tie.Need-returns-2
 returns-2 c = simp (not-false (c .before .before .args .joins) (c .before .if1 .left), c .insert .ensures)
 

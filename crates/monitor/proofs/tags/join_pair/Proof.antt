@@ -1,19 +1,15 @@
-use mathlib.Core.Path.{_≡_, ap, _∙_}
+-- The number has joined at the pair's places before x.
 use mathlib.Core.List.{List, [], _∷_}
+use mathlib.Core.Path.{_≡_, ap, _∙_, refl}
 use Prim.Native.Nat.{ℕ, _-_, _≤_, max}
 use native.Mathlib.Omega.{arith}
-use borrow.Author.Needs.{needs}
 use lib.ListN.{getD, length, set, length-set}
+use borrow.Author.Needs.{needs}
 use Rattle.rules.specs.Compartments.{insert}
 use Rattle.rules.specs.Step.{joined}
 use Rattle.monitor.specs.TagLaws.{walk-starts, walk-goes, walk-ends}
-use mathlib.Core.Path.{refl}
 use Rattle.monitor.proofs.tags.join_pair.Statement.{statement}
 use Rattle.monitor.proofs.tags.join_pair.Tie as tie
-use Rattle.monitor.proofs.tags.join_pair.Reads as reads
-use Rattle.monitor.proofs.tags.join_pair.Lts as lts
-use Rattle.compartments.proofs.Set.insert.Reads as insert-reads
-use Rattle.monitor.proofs.tags.clipped.Reads as clipped-reads
 
 abbrev Inv-loop : tie.InvT-loop
 Inv-loop sets₀ n number end x₀ sets x = (x₀ ≤ x) × (x ≤ max x₀ end) × (length sets ≡ length sets₀) × (sets ≡ joined n (record { first = x₀; past = x } ∷ []) number sets₀)
@@ -21,51 +17,41 @@ Inv-loop sets₀ n number end x₀ sets x = (x₀ ≤ x) × (x ≤ max x₀ end)
 abbrev μ-loop : tie.MeasureT-loop
 μ-loop sets₀ n number end x₀ sets x = end - x
 
--- src/tags.rt:47:9
 clipped-requires : tie.Need-clipped-requires Inv-loop μ-loop
 clipped-requires c κs = search needs
 
--- src/tags.rt:48:17
 cast-x : tie.Need-cast-x Inv-loop μ-loop
 cast-x c = omega arith
 
--- src/tags.rt:49:5
 loop-holds : tie.Need-loop-holds Inv-loop μ-loop
 unfolding joined
 loop-holds c = (omega arith, omega arith, refl, walk-starts (λ v. insert v (c .before .before .before .args .number)) _ _ _)
 
--- src/tags.rt:50:23
 mul-t10 : tie.Need-mul-t10 Inv-loop μ-loop
 mul-t10 c = omega arith
 
--- src/tags.rt:50:23
 slice-read-t12 : tie.Need-slice-read-t12 Inv-loop μ-loop
 slice-read-t12 c = omega arith
 
--- src/tags.rt:50:13
 insert-requires : tie.Need-insert-requires Inv-loop μ-loop
 insert-requires c κs = search needs
 
--- src/tags.rt:51:9
 mul-sets : tie.Need-mul-sets Inv-loop μ-loop
 mul-sets c = omega arith
 
--- src/tags.rt:51:9
 slice-write-sets : tie.Need-slice-write-sets Inv-loop μ-loop
 slice-write-sets c = omega arith
 
--- src/tags.rt:52:9
 add-x : tie.Need-add-x Inv-loop μ-loop
 add-x c = omega arith
 
--- src/tags.rt:49:5
 loop-less : tie.Need-loop-less Inv-loop μ-loop
 loop-less c = omega arith
 
--- src/tags.rt:49:5
 loop-again : tie.Need-loop-again Inv-loop μ-loop
 unfolding joined
-loop-again c = let g = c .before .before .before .before .before .before .before .args in
+loop-again c =
+    let g = c .before .before .before .before .before .before .before .args in
     let x = c .before .before .before .loop in (
       omega arith,
       omega arith,
@@ -74,14 +60,13 @@ loop-again c = let g = c .before .before .before .before .before .before .before
           ∙ walk-goes (λ v. insert v (g .number)) (g .sets .now) (g .n) (g .pair .first) (x .x) (omega arith) (omega arith) (omega arith),
     )
 
--- src/tags.rt:44:1
 same-length : tie.Need-same-length Inv-loop μ-loop
 same-length c = omega arith
 
--- src/tags.rt:44:1
 returns : tie.Need-returns Inv-loop μ-loop
 unfolding joined
-returns c = let g = c .before .before .before .before .before .args in
+returns c =
+    let g = c .before .before .before .before .before .args in
     let x = c .before .loop in
     x .inv .3 ∙ walk-ends (λ v. insert v (g .number)) (g .sets .now) (g .n) (g .pair .first) (g .pair .past) (x .x) (omega arith) (omega arith)
 

@@ -1,54 +1,42 @@
+-- Three services, each by its own test.
+use borrow.Author.Needs.{needs}
 use Rattle.common.specs.AddressSets.{setAt, inSet}
 use Rattle.rules.specs.Step.{joinedServices}
 use Rattle.monitor.specs.TagLaws.{three-services}
-use borrow.Author.Needs.{needs}
 use Rattle.monitor.proofs.tags.join_services.Statement.{statement}
 use Rattle.monitor.proofs.tags.join_services.Tie as tie
-use Rattle.monitor.proofs.tags.join_services.Reads as reads
-use Rattle.monitor.proofs.tags.join_services.Lts as lts
-use Rattle.monitor.proofs.sets.has.Reads as has-reads
-use Rattle.monitor.proofs.tags.join_if.Reads as join-if-reads
 
--- src/tags.rt:99:27
 has-requires : tie.Need-has-requires
 has-requires c κs = search needs
 
--- src/tags.rt:99:51
 array-read-join-if : tie.Need-array-read-join-if
 array-read-join-if c = search needs
 
--- src/tags.rt:99:9
 join-if-requires : tie.Need-join-if-requires
 join-if-requires c κs = search needs
 
--- src/tags.rt:100:28
 has-requires-2 : tie.Need-has-requires-2
 has-requires-2 c κs = search needs
 
--- src/tags.rt:100:60
 array-read-join-if-2 : tie.Need-array-read-join-if-2
 array-read-join-if-2 c = search needs
 
--- src/tags.rt:100:9
 join-if-requires-2 : tie.Need-join-if-requires-2
 join-if-requires-2 c κs = search needs
 
--- src/tags.rt:101:29
 has-requires-3 : tie.Need-has-requires-3
 has-requires-3 c κs = search needs
 
--- src/tags.rt:101:62
 array-read-join-if-3 : tie.Need-array-read-join-if-3
 array-read-join-if-3 c = search needs
 
--- src/tags.rt:101:9
 join-if-requires-3 : tie.Need-join-if-requires-3
 join-if-requires-3 c κs = search needs
 
--- src/tags.rt:95:1
 returns : tie.Need-returns
 unfolding joinedServices
-returns c = let g = c .before .before .before .before .before .before .before .args in
+returns c =
+    let g = c .before .before .before .before .before .before .before .args in
     simp (c .before .before .before .before .join-if .ensures, c .before .before .join-if2 .ensures, c .join-if3 .ensures, c .before .before .before .before .before .has .ensures, c .before .before .before .has2 .ensures, c .before .has3 .ensures)
     (three-services (inSet (setAt (g .words .now) (g .q))) (g .number) (g .t1) (c .before .before .before .before .before .before .before .good .0 .1 .0 .1))
 

@@ -1,17 +1,14 @@
-use mathlib.Core.Path.{_≡_, ap, _∙_}
+-- The pair's places before x have the owner.
 use mathlib.Core.List.{List, [], _∷_}
+use mathlib.Core.Path.{_≡_, ap, _∙_, refl}
 use Prim.Native.Nat.{ℕ, _-_, _≤_, max}
 use native.Mathlib.Omega.{arith}
-use borrow.Author.Needs.{needs}
 use lib.ListN.{length, set, length-set}
+use borrow.Author.Needs.{needs}
 use Rattle.rules.specs.Step.{owned}
 use Rattle.monitor.specs.TagLaws.{walk-starts, walk-goes, walk-ends}
-use mathlib.Core.Path.{refl}
 use Rattle.monitor.proofs.tags.own_pair.Statement.{statement}
 use Rattle.monitor.proofs.tags.own_pair.Tie as tie
-use Rattle.monitor.proofs.tags.own_pair.Reads as reads
-use Rattle.monitor.proofs.tags.own_pair.Lts as lts
-use Rattle.monitor.proofs.tags.clipped.Reads as clipped-reads
 
 abbrev Inv-loop : tie.InvT-loop
 Inv-loop owners₀ n number end x₀ owners x = (x₀ ≤ x) × (x ≤ max x₀ end) × (length owners ≡ length owners₀) × (owners ≡ owned n (record { first = x₀; past = x } ∷ []) number owners₀)
@@ -19,39 +16,32 @@ Inv-loop owners₀ n number end x₀ owners x = (x₀ ≤ x) × (x ≤ max x₀ 
 abbrev μ-loop : tie.MeasureT-loop
 μ-loop owners₀ n number end x₀ owners x = end - x
 
--- src/tags.rt:35:9
 clipped-requires : tie.Need-clipped-requires Inv-loop μ-loop
 clipped-requires c κs = search needs
 
--- src/tags.rt:36:17
 cast-x : tie.Need-cast-x Inv-loop μ-loop
 cast-x c = omega arith
 
--- src/tags.rt:37:5
 loop-holds : tie.Need-loop-holds Inv-loop μ-loop
 unfolding owned
 loop-holds c = (omega arith, omega arith, refl, walk-starts _ _ _ _)
 
--- src/tags.rt:38:9
 mul-owners : tie.Need-mul-owners Inv-loop μ-loop
 mul-owners c = omega arith
 
--- src/tags.rt:38:9
 slice-write-owners : tie.Need-slice-write-owners Inv-loop μ-loop
 slice-write-owners c = omega arith
 
--- src/tags.rt:39:9
 add-x : tie.Need-add-x Inv-loop μ-loop
 add-x c = omega arith
 
--- src/tags.rt:37:5
 loop-less : tie.Need-loop-less Inv-loop μ-loop
 loop-less c = omega arith
 
--- src/tags.rt:37:5
 loop-again : tie.Need-loop-again Inv-loop μ-loop
 unfolding owned
-loop-again c = let g = c .before .before .before .before .before .args in
+loop-again c =
+    let g = c .before .before .before .before .before .args in
     let x = c .before .loop in (
       omega arith,
       omega arith,
@@ -59,14 +49,13 @@ loop-again c = let g = c .before .before .before .before .before .args in
       ap (λ (m : List ℕ). set m (x .x) (g .number)) (x .inv .3) ∙ walk-goes (λ _. g .number) (g .owners .now) (g .n) (g .pair .first) (x .x) (omega arith) (omega arith) (omega arith),
     )
 
--- src/tags.rt:32:1
 same-length : tie.Need-same-length Inv-loop μ-loop
 same-length c = omega arith
 
--- src/tags.rt:32:1
 returns : tie.Need-returns Inv-loop μ-loop
 unfolding owned
-returns c = let g = c .before .before .before .before .before .args in
+returns c =
+    let g = c .before .before .before .before .before .args in
     let x = c .before .loop in
     x .inv .3 ∙ walk-ends (λ _. g .number) (g .owners .now) (g .n) (g .pair .first) (g .pair .past) (x .x) (omega arith) (omega arith)
 
