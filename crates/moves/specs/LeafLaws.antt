@@ -65,3 +65,7 @@ module _ (owner next : ℕ) where
       go : (t : Bool) → leb owner 3 ≡ t → leb 4 owner ≡ not t
       go true f = lt-leb 4 owner (let k = leb-true owner 3 f in omega arith)
       go false f = le-leb 4 owner (leb-false owner 3 f)
+
+-- below 5 and not 3, from 3 on, is 4
+pub four : (op : ℕ) → 3 ≤ op → op < 5 → op ≢ 3 → op ≡ 4
+four op h k n = omega arith

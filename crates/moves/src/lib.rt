@@ -1,8 +1,11 @@
 // What the instruction at pc will write, decided by reading alone.
 ghost use mathlib.Core.Path.{_≡_};
-ghost use Prim.Native.Nat.{_<_};
+ghost use mathlib.Core.Bool.{_&&_};
+ghost use Prim.Native.Nat.{_<_, _≤_};
 ghost use lib.ListN.{getD};
-ghost use Rattle.common.specs.Instructions.{arithmetic, branch};
+ghost use Rattle.common.specs.Instructions.{plus, bit, arithmetic, branch};
+ghost use Rattle.rules.specs.Compartments.{member};
+ghost use Rattle.moves.specs.MoveLaws.{Small};
 ghost use Rattle.instructions.specs.Promises.{decoded};
 ghost use Rattle.moves.specs.Moves as is;
 use instructions::Decoded;
@@ -99,17 +102,30 @@ fn reg(regs: &[u32; 16], i: u32) -> u32
     regs[j]
 }
 
-// Add, Sub, Mul, Eq and Leq: opcodes 3 to 7.
+// Add, Sub, Mul, Eq and Leq: opcodes 3 to 7. An order comes first, so that no second jump table is made.
 fn arith(op: u32, x: u32, y: u32) -> u32
+    requires { ⌜ 3 ≤ op ⌝ }
     ensures { λ r. ⌜ r ≡ arithmetic op x y ⌝ }
 {
-    match op {
-        3 => std::num::wrapping_add_u32(x, y),
-        4 => std::num::wrapping_sub_u32(x, y),
-        5 => ((x as u64) * (y as u64) % 4294967296) as u32,
-        6 => { if x == y { 1 } else { 0 } }
-        _ => { if x <= y { 1 } else { 0 } }
+    if op < 5 {
+        if op == 3 {
+            return std::num::wrapping_add_u32(x, y);
+        }
+        return std::num::wrapping_sub_u32(x, y);
     }
+    if op == 5 {
+        return ((x as u64) * (y as u64) % 4294967296) as u32;
+    }
+    if op == 6 {
+        return bit(x == y);
+    }
+    bit(x <= y)
+}
+
+fn bit(t: bool) -> u32
+    ensures { λ r. ⌜ r ≡ bit t ⌝ }
+{
+    if t { 1 } else { 0 }
 }
 
 // pc and an offset of 16 bits in two's complement.
@@ -138,13 +154,10 @@ fn is_free(owner: u32, next: u32) -> bool
     owner >= 4
 }
 
-// 4: whether a step may arrive at a word of this owner and these jumpers.
-fn arrives(owner: u32, prev: u32, jumped: bool, jumpers: u64) -> bool
-    ensures { λ r. ⌜ r ≡ is.arrivesAt owner prev jumped jumpers ⌝ }
+// 4, where the owner is another: whether the flag is jumped and prev among the jumpers.
+fn jumped_in(prev: u32, jumped: bool, jumpers: u64) -> bool
+    ensures { λ r. ⌜ r ≡ (jumped && member jumpers prev) ⌝ }
 {
-    if owner == prev {
-        return true;
-    }
     if !jumped {
         return false;
     }
@@ -195,7 +208,51 @@ fn bnz_move(owner: u32, on: u32, pc: u32, low: u32, x: u32) -> Move
     goes(owner, branch_target(pc, low))
 }
 
-// The instruction of an owner at pc. No word decodes to an opcode above 13.
+// pc + 1.
+fn after(pc: u32) -> u32
+    ensures { λ r. ⌜ r ≡ plus pc 1 ⌝ }
+{
+    std::num::wrapping_add_u32(pc, 1)
+}
+
+// An instruction that is none of the arithmetic ones. No word decodes to an opcode above 13.
+fn other(
+    i: Decoded,
+    regs: &[u32; 16],
+    pc: u32,
+    owner: u32,
+    n: u32,
+    words: &[u32],
+    owners: &[u32],
+    writers: &[u64],
+) -> Move
+    requires { ⌜ (i .a < 16) × (i .b < 16) × ((3 ≤ i .op → i .op < 8 → ⊥)) ⌝ }
+    ensures { λ r. ⌜ r ≡ is.instructionMove (decoded i) (now (regs .entry)) pc owner n (now (words .entry)) (now (owners .entry)) (now (writers .entry)) ⌝ }
+{
+    let op = i.op;
+    match op {
+        0 => goes(owner, after(pc)),
+        1 => puts(owner, after(pc), i.a, i.low),
+        2 => puts(owner, after(pc), i.b, reg(regs, i.a)),
+        8 => load_move(owner, after(pc), i.b, reg(regs, i.a), n, words),
+        9 => store_move(
+            owner,
+            after(pc),
+            reg(regs, i.a),
+            reg(regs, i.b),
+            n,
+            owners,
+            writers,
+        ),
+        10 => leaps(owner, reg(regs, i.a), NO_REGISTER, 0),
+        11 => leaps(owner, reg(regs, i.a), 15, after(pc)),
+        12 => bnz_move(owner, after(pc), pc, i.low, reg(regs, i.a)),
+        13 => stop(answers::HALT, owner),
+        _ => goes(owner, after(pc)),
+    }
+}
+
+// The instruction of an owner at pc.
 fn execute(
     i: Decoded,
     regs: &[u32; 16],
@@ -206,25 +263,18 @@ fn execute(
     owners: &[u32],
     writers: &[u64],
 ) -> Move
-    requires { ⌜ (i .a < 16) × (i .b < 16) ⌝ }
+    requires { ⌜ Small (decoded i) ⌝ }
     ensures { λ r. ⌜ r ≡ is.instructionMove (decoded i) (now (regs .entry)) pc owner n (now (words .entry)) (now (owners .entry)) (now (writers .entry)) ⌝ }
 {
-    let on = std::num::wrapping_add_u32(pc, 1);
-    let x = reg(regs, i.a);
-    let y = reg(regs, i.b);
     let op = i.op;
     match op {
-        0 => goes(owner, on),
-        1 => puts(owner, on, i.a, i.low),
-        2 => puts(owner, on, i.b, x),
-        3..=7 => puts(owner, on, i.low, arith(op, x, y)),
-        8 => load_move(owner, on, i.b, x, n, words),
-        9 => store_move(owner, on, x, y, n, owners, writers),
-        10 => leaps(owner, x, NO_REGISTER, 0),
-        11 => leaps(owner, x, 15, on),
-        12 => bnz_move(owner, on, pc, i.low, x),
-        13 => stop(answers::HALT, owner),
-        _ => goes(owner, on),
+        3..=7 => puts(
+            owner,
+            after(pc),
+            i.low % 16,
+            arith(op, reg(regs, i.a), reg(regs, i.b)),
+        ),
+        _ => other(i, regs, pc, owner, n, words, owners, writers),
     }
 }
 
@@ -247,8 +297,10 @@ pub fn decide(
     if !is_free(owner, next) {
         return stop(answers::BAD_OWNER, owner);
     }
-    if !arrives(owner, prev, jumped, memory::set_at(jumpers, pc)) {
-        return stop(answers::NO_ARRIVAL, owner);
+    if owner != prev {
+        if !jumped_in(prev, jumped, memory::set_at(jumpers, pc)) {
+            return stop(answers::NO_ARRIVAL, owner);
+        }
     }
     let i = instructions::decode(memory::word_at(words, pc));
     let answer = i.answer;

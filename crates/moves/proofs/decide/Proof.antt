@@ -1,4 +1,6 @@
 -- `decide`, case by case.
+use mathlib.Core.Logic.{⊎-elim}
+use mathlib.Core.Path.{refl, ap, _∙_}
 use Rattle.moves.specs.MoveLaws as law
 use borrow.Author.Needs.{needs}
 use Rattle.moves.proofs.decide.Statement.{statement}
@@ -19,14 +21,14 @@ returns c = law.not-free _ _ _ _ _ _ _ _ _ _ _ (c .before .before .before .word-
 set-at-requires : tie.Need-set-at-requires
 set-at-requires c κs = search needs
 
-arrives-requires : tie.Need-arrives-requires
-arrives-requires c κs = search needs
+jumped-in-requires : tie.Need-jumped-in-requires
+jumped-in-requires c κs = search needs
 
 stop-requires-2 : tie.Need-stop-requires-2
 stop-requires-2 c κs = search needs
 
 returns-2 : tie.Need-returns-2
-returns-2 c = law.not-come _ _ _ _ _ _ _ _ _ _ _ (c .before .before .before .before .before .before .word-at .ensures) _ _ (c .before .before .before .before .before .is-free .ensures) (c .before .before .before .before .if1 .left) _ (c .before .before .before .set-at .ensures) _ (c .before .before .arrives .ensures) (c .before .if2 .taken) (c .stop2 .ensures)
+returns-2 c = law.not-come _ _ _ _ _ _ _ _ _ _ _ (c .before .before .before .before .before .before .before .word-at .ensures) _ _ (c .before .before .before .before .before .before .is-free .ensures) (c .before .before .before .before .before .if1 .left) (c .before .before .before .before .if2 .taken) _ (c .before .before .before .set-at .ensures) _ (c .before .before .jumped-in .ensures) (c .before .if3 .taken) (c .stop2 .ensures)
 
 word-at-requires-2 : tie.Need-word-at-requires-2
 word-at-requires-2 c κs = search needs
@@ -38,13 +40,13 @@ stop-requires-3 : tie.Need-stop-requires-3
 stop-requires-3 c κs = search needs
 
 returns-3 : tie.Need-returns-3
-returns-3 c = law.no-word _ _ _ _ _ _ _ _ _ _ _ (c .before .before .before .before .before .before .before .before .before .word-at .ensures) _ _ (c .before .before .before .before .before .before .before .before .is-free .ensures) (c .before .before .before .before .before .before .before .if1 .left) _ (c .before .before .before .before .before .before .set-at .ensures) _ (c .before .before .before .before .before .arrives .ensures) (c .before .before .before .before .if2 .left) _ (c .before .before .before .word-at2 .ensures) _ (c .before .before .decode .ensures) (c .before .if3 .taken) (c .stop3 .ensures)
+returns-3 c = law.no-word _ _ _ _ _ _ _ _ _ _ _ (c .before .before .before .before .before .before .before .word-at .ensures) _ _ (c .before .before .before .before .before .before .is-free .ensures) (c .before .before .before .before .before .if1 .left) (⊎-elim (λ w. law.by-jump _ _ _ _ _ (w .1 .ensures) _ (w .2 .ensures) (w .3 .left)) (λ w. law.at-home _ _ _ _ (w .left)) (c .before .before .before .before .if2 .came)) _ (c .before .before .before .word-at2 .ensures) _ (c .before .before .decode .ensures) (c .before .if4 .taken) (c .stop3 .ensures)
 
 execute-requires : tie.Need-execute-requires
-execute-requires c κs = law.fields-small _ _ (c .before .decode .ensures)
+execute-requires c κs = law.fields-small _ _ (c .before .decode .ensures) (c .if4 .left)
 
 returns-4 : tie.Need-returns-4
-returns-4 c = law.a-word _ _ _ _ _ _ _ _ _ _ _ (c .before .before .before .before .before .before .before .before .before .word-at .ensures) _ _ (c .before .before .before .before .before .before .before .before .is-free .ensures) (c .before .before .before .before .before .before .before .if1 .left) _ (c .before .before .before .before .before .before .set-at .ensures) _ (c .before .before .before .before .before .arrives .ensures) (c .before .before .before .before .if2 .left) _ (c .before .before .before .word-at2 .ensures) _ (c .before .before .decode .ensures) (c .before .if3 .left) (c .execute .ensures)
+returns-4 c = law.a-word _ _ _ _ _ _ _ _ _ _ _ (c .before .before .before .before .before .before .before .word-at .ensures) _ _ (c .before .before .before .before .before .before .is-free .ensures) (c .before .before .before .before .before .if1 .left) (⊎-elim (λ w. law.by-jump _ _ _ _ _ (w .1 .ensures) _ (w .2 .ensures) (w .3 .left)) (λ w. law.at-home _ _ _ _ (w .left)) (c .before .before .before .before .if2 .came)) _ (c .before .before .before .word-at2 .ensures) _ (c .before .before .decode .ensures) (c .before .if4 .left) (c .execute .ensures)
 
 pub decide-spec : {M : Type 1} → statement M
 decide-spec =
@@ -55,7 +57,7 @@ decide-spec =
     stop-requires
     returns
     set-at-requires
-    arrives-requires
+    jumped-in-requires
     stop-requires-2
     returns-2
     word-at-requires-2
