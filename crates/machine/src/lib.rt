@@ -8,6 +8,7 @@ ghost use Rattle.rules.specs.Run.{run};
 ghost use Rattle.moves.specs.Applied.{putReg, putWord};
 ghost use Rattle.machine.specs.Views.{cpuOf, stateOf, steppedOf, ranOf, addedOf};
 ghost use Rattle.machine.specs.ServiceLaws.{arrivesBy, backWith, addedBy};
+ghost use Rattle.machine.specs.InsideLaws.{insideRun};
 ghost use Rattle.machine.specs.Form.{sizedBy, numberedBy, seatedBy, formedBy};
 use compartments::Set;
 
@@ -231,44 +232,36 @@ impl Processor {
         }
     }
 
-    // Steps until the first nonzero answer or until the budget is used. What 14 looks at cannot
-    // change on the way, so it is looked at once.
-    pub fn run(
+    fn ended(self, answer: u32, count: u32) -> Ran
+        ensures { λ r. ⌜ r ≡ record { cpu = self; answer = answer; count = count } ⌝ }
+    {
+        Ran {
+            cpu: self,
+            answer,
+            count,
+        }
+    }
+
+    // Steps at memory words until a stop, until the budget is used or until pc is not below N.
+    // The form is known here: asking again tells the compiler the lengths, so that no read is tested in the loop.
+    fn inside(
         mut self,
         words: &mut [u32],
-        owners: &mut [u32],
-        jumpers: &mut [u64],
-        writers: &mut [u64],
+        owners: &[u32],
+        jumpers: &[u64],
+        writers: &[u64],
         budget: u32,
     ) -> Ran
-        ensures { λ r. ⌜ ranOf r (now (words .exit)) (now (owners .exit)) (now (jumpers .exit)) (now (writers .exit)) ≡ run budget (stateOf self (now (words .entry)) (now (owners .entry)) (now (jumpers .entry)) (now (writers .entry))) ⌝ }
+        requires { ⌜ formed (stateOf self (now words) (now owners) (now jumpers) (now writers)) ≡ true ⌝ }
+        ensures { λ r. ⌜ ranOf r (now (words .exit)) (now (owners .entry)) (now (jumpers .entry)) (now (writers .entry)) ≡ insideRun budget (stateOf self (now (words .entry)) (now (owners .entry)) (now (jumpers .entry)) (now (writers .entry))) ⌝ }
     {
         let mut count: u32 = 0;
-        if budget == 0 {
-            return Ran {
-                cpu: self,
-                answer: answers::DONE,
-                count,
-            };
-        }
         if !self.is_formed(words.len(), owners.len(), jumpers.len(), writers.len()) {
-            return Ran {
-                cpu: self,
-                answer: answers::BAD_FORM,
-                count,
-            };
+            return self.ended(answers::BAD_FORM, count);
         }
         while count < budget {
             if self.n <= self.pc {
-                let s = self.outside(words, owners, jumpers, writers);
-                let cpu = s.cpu;
-                let answer = s.answer;
-                if answer != answers::DONE {
-                    return Ran { cpu, answer, count };
-                }
-                self = cpu;
-                count += 1;
-                continue;
+                return self.ended(answers::DONE, count);
             }
             let m = moves::decide(
                 &self.regs,
@@ -284,11 +277,7 @@ impl Processor {
             );
             let answer = m.answer;
             if answer != answers::DONE {
-                return Ran {
-                    cpu: self,
-                    answer,
-                    count,
-                };
+                return self.ended(answer, count);
             }
             put_reg(&mut self.regs, m.rd, m.value);
             put_word(words, self.n, m.place, m.word);
@@ -297,14 +286,53 @@ impl Processor {
             self.jumped = m.jumped;
             count += 1;
         }
-        Ran {
-            cpu: self,
-            answer: answers::DONE,
-            count,
-        }
+        self.ended(answers::DONE, count)
     }
 
-    // One step is a run of budget 1.
+    // Steps until the first nonzero answer or until the budget is used. What 14 looks at cannot
+    // change on the way, so it is looked at before the first step.
+    pub fn run(
+        mut self,
+        words: &mut [u32],
+        owners: &mut [u32],
+        jumpers: &mut [u64],
+        writers: &mut [u64],
+        budget: u32,
+    ) -> Ran
+        ensures { λ r. ⌜ ranOf r (now (words .exit)) (now (owners .exit)) (now (jumpers .exit)) (now (writers .exit)) ≡ run budget (stateOf self (now (words .entry)) (now (owners .entry)) (now (jumpers .entry)) (now (writers .entry))) ⌝ }
+    {
+        let mut count: u32 = 0;
+        if budget == 0 {
+            return self.ended(answers::DONE, count);
+        }
+        if !self.is_formed(words.len(), owners.len(), jumpers.len(), writers.len()) {
+            return self.ended(answers::BAD_FORM, count);
+        }
+        while count < budget {
+            if self.n <= self.pc {
+                let s = self.outside(words, owners, jumpers, writers);
+                let answer = s.answer;
+                let cpu = s.cpu;
+                if answer != answers::DONE {
+                    return cpu.ended(answer, count);
+                }
+                self = cpu;
+                count += 1;
+                continue;
+            }
+            let r = self.inside(words, owners, jumpers, writers, budget - count);
+            let answer = r.answer;
+            let cpu = r.cpu;
+            count += r.count;
+            if answer != answers::DONE {
+                return cpu.ended(answer, count);
+            }
+            self = cpu;
+        }
+        self.ended(answers::DONE, count)
+    }
+
+    // One step, at a memory word a run of budget 1.
     pub fn step(
         self,
         words: &mut [u32],
@@ -314,7 +342,16 @@ impl Processor {
     ) -> Stepped
         ensures { λ r. ⌜ steppedOf r (now (words .exit)) (now (owners .exit)) (now (jumpers .exit)) (now (writers .exit)) ≡ step (stateOf self (now (words .entry)) (now (owners .entry)) (now (jumpers .entry)) (now (writers .entry))) ⌝ }
     {
-        let r = self.run(words, owners, jumpers, writers, 1);
+        if !self.is_formed(words.len(), owners.len(), jumpers.len(), writers.len()) {
+            return Stepped {
+                cpu: self,
+                answer: answers::BAD_FORM,
+            };
+        }
+        if self.n <= self.pc {
+            return self.outside(words, owners, jumpers, writers);
+        }
+        let r = self.inside(words, owners, jumpers, writers, 1);
         let cpu = r.cpu;
         Stepped {
             cpu,
