@@ -1,0 +1,59 @@
+use Rattle.image_lines.proofs.building.put_registers.Statement.{statement}
+use Rattle.image_lines.proofs.building.put_registers.Tie as tie
+use Rattle.image_lines.proofs.building.put_registers.Reads as reads
+use Rattle.image_lines.proofs.building.put_registers.Lts as lts
+use Rattle.image_lines.proofs.building.put.Reads as put-reads
+use Rattle.image_lines.proofs.building.register.Reads as register-reads
+
+abbrev Inv-loop : tie.InvT-loop
+Inv-loop bytes₀ at k place₀ i₀ bytes place i = ?
+
+abbrev μ-loop : tie.MeasureT-loop
+μ-loop bytes₀ at k place₀ i₀ bytes place i = ?
+
+-- src/building.rt:96:5
+loop-holds : tie.Need-loop-holds Inv-loop μ-loop
+loop-holds c = ?
+
+-- src/building.rt:97:35
+register-requires : tie.Need-register-requires Inv-loop μ-loop
+register-requires c κs = ?
+
+-- src/building.rt:97:9
+put-requires : tie.Need-put-requires Inv-loop μ-loop
+put-requires c κs = ?
+
+-- src/building.rt:98:9
+add-i : tie.Need-add-i Inv-loop μ-loop
+add-i c = ?
+
+-- src/building.rt:96:5
+loop-less : tie.Need-loop-less Inv-loop μ-loop
+loop-less c = ?
+
+-- src/building.rt:96:5
+loop-again : tie.Need-loop-again Inv-loop μ-loop
+loop-again c = ?
+
+-- src/building.rt:90:1
+same-length : tie.Need-same-length Inv-loop μ-loop
+same-length c = ?
+
+-- src/building.rt:90:1
+returns : tie.Need-returns Inv-loop μ-loop
+returns c = ?
+
+pub put-registers-spec : {M : Type 1} → statement M
+put-registers-spec =
+    tie.close
+    (tie.spec
+    Inv-loop
+    μ-loop
+    loop-holds
+    register-requires
+    put-requires
+    add-i
+    loop-less
+    loop-again
+    same-length
+    returns)

@@ -1,0 +1,58 @@
+use Rattle.image_lines.proofs.showing.sum_of_bytes.Statement.{statement}
+use Rattle.image_lines.proofs.showing.sum_of_bytes.Tie as tie
+use Rattle.image_lines.proofs.showing.sum_of_bytes.Reads as reads
+use Rattle.image_lines.proofs.showing.sum_of_bytes.Lts as lts
+use Rattle.image_lines.proofs.showing.mixed.Reads as mixed-reads
+
+abbrev Inv-loop : tie.InvT-loop
+Inv-loop list sum₀ i₀ sum i = ?
+
+abbrev μ-loop : tie.MeasureT-loop
+μ-loop list sum₀ i₀ sum i = ?
+
+-- src/showing.rt:40:5
+loop-holds : tie.Need-loop-holds Inv-loop μ-loop
+loop-holds c = ?
+
+-- src/showing.rt:41:26
+shared-slice-read-mixed : tie.Need-shared-slice-read-mixed Inv-loop μ-loop
+shared-slice-read-mixed c = ?
+
+-- src/showing.rt:41:26
+cast-mixed : tie.Need-cast-mixed Inv-loop μ-loop
+cast-mixed c = ?
+
+-- src/showing.rt:41:9
+mixed-requires : tie.Need-mixed-requires Inv-loop μ-loop
+mixed-requires c κs = ?
+
+-- src/showing.rt:42:9
+add-i : tie.Need-add-i Inv-loop μ-loop
+add-i c = ?
+
+-- src/showing.rt:40:5
+loop-less : tie.Need-loop-less Inv-loop μ-loop
+loop-less c = ?
+
+-- src/showing.rt:40:5
+loop-again : tie.Need-loop-again Inv-loop μ-loop
+loop-again c = ?
+
+-- src/showing.rt:37:1
+returns : tie.Need-returns Inv-loop μ-loop
+returns c = ?
+
+pub sum-of-bytes-spec : {M : Type 1} → statement M
+sum-of-bytes-spec =
+    tie.close
+    (tie.spec
+    Inv-loop
+    μ-loop
+    loop-holds
+    shared-slice-read-mixed
+    cast-mixed
+    mixed-requires
+    add-i
+    loop-less
+    loop-again
+    returns)
