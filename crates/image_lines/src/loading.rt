@@ -12,13 +12,23 @@ use machine::Processor;
 fn show_cpu(cpu: Processor) {
     let regs = cpu.regs;
     let services = cpu.services;
+    let sum_of_regs = showing::sum_of_words(&regs);
+    let sum_of_services = showing::sum_of_sets(&services);
     field(b"n", cpu.n as u64);
-    field(b"regs", showing::sum_of_words(&regs));
+    field(b"regs", sum_of_regs);
     field(b"pc", cpu.pc as u64);
     field(b"prev", cpu.prev as u64);
     flag(b"jumped", cpu.jumped);
     field(b"next", cpu.next as u64);
-    field(b"services", showing::sum_of_sets(&services));
+    field(b"services", sum_of_services);
+}
+
+fn show_memories(words: &[u32], owners: &[u32], jumpers: &[u64], writers: &[u64]) {
+    field(b"words", showing::sum_of_words(words));
+    field(b"owners", showing::sum_of_words(owners));
+    field(b"jumpers", showing::sum_of_sets(jumpers));
+    field(b"writers", showing::sum_of_sets(writers));
+    text(b"\n");
 }
 
 fn mark(words: &mut [u32], owners: &mut [u32], jumpers: &mut [u64], writers: &mut [u64]) {
@@ -40,11 +50,7 @@ fn show_over(
     let r = images::load(bytes, words, owners, jumpers, writers);
     field(b"answer", r.answer as u64);
     show_cpu(r.cpu);
-    field(b"words", showing::sum_of_words(words));
-    field(b"owners", showing::sum_of_words(owners));
-    field(b"jumpers", showing::sum_of_sets(jumpers));
-    field(b"writers", showing::sum_of_sets(writers));
-    text(b"\n");
+    show_memories(words, owners, jumpers, writers);
 }
 
 // Over memories of four lengths.

@@ -23,28 +23,26 @@ fn show_rewritten(bytes: &[u8], words: &[u32], regs: &[u32; 16], entry: u32, out
     text(b"\n");
 }
 
+fn show_reloaded(bytes: &[u8]) {
+    let mut words = building::word_room();
+    let mut owners = building::word_room();
+    let mut jumpers = building::set_room();
+    let mut writers = building::set_room();
+    let r = images::load(bytes, &mut words, &mut owners, &mut jumpers, &mut writers);
+    let cpu = r.cpu;
+    let regs = cpu.regs;
+    let n = building::within(cpu.n as usize, 2050);
+    let mut out = building::image_room();
+    show_rewritten(bytes, &words[..n], &regs, cpu.pc, &mut out);
+}
+
 fn show_again(name: &[u8], parts: Parts, length: usize)
     requires { ⌜ length ≤ 8280 ⌝ }
 {
     text(name);
     let mut bytes = building::image_room();
     building::build(&mut bytes, parts);
-    let mut words = building::word_room();
-    let mut owners = building::word_room();
-    let mut jumpers = building::set_room();
-    let mut writers = building::set_room();
-    let r = images::load(
-        &bytes[..length],
-        &mut words,
-        &mut owners,
-        &mut jumpers,
-        &mut writers,
-    );
-    let cpu = r.cpu;
-    let regs = cpu.regs;
-    let n = building::within(cpu.n as usize, 2050);
-    let mut out = building::image_room();
-    show_rewritten(&bytes[..length], &words[..n], &regs, cpu.pc, &mut out);
+    show_reloaded(&bytes[..length]);
 }
 
 pub(crate) fn show_rewriting() {

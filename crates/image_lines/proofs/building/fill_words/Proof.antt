@@ -1,54 +1,46 @@
+-- The place reached is within the list.
+use mathlib.Core.Path.{_≡_}
+use Prim.Native.Nat.{_-_, _≤_}
+use borrow.Author.Needs.{needs}
+use lib.ListN.{length}
 use Rattle.image_lines.proofs.building.fill_words.Statement.{statement}
 use Rattle.image_lines.proofs.building.fill_words.Tie as tie
-use Rattle.image_lines.proofs.building.fill_words.Reads as reads
-use Rattle.image_lines.proofs.building.fill_words.Lts as lts
-use Rattle.image_lines.proofs.building.word.Reads as word-reads
 
 abbrev Inv-loop : tie.InvT-loop
-Inv-loop words₀ i₀ words i = ?
+Inv-loop words₀ i₀ words i = (i ≤ length words₀) × (length words ≡ length words₀)
 
 abbrev μ-loop : tie.MeasureT-loop
-μ-loop words₀ i₀ words i = ?
+μ-loop words₀ i₀ words i = length words₀ - i
 
--- src/building.rt:160:5
 loop-holds : tie.Need-loop-holds Inv-loop μ-loop
-loop-holds c = ?
+loop-holds c = search needs
 
--- src/building.rt:161:25
 cast-word : tie.Need-cast-word Inv-loop μ-loop
-cast-word c = ?
+cast-word c = search needs
 
--- src/building.rt:161:20
 word-requires : tie.Need-word-requires Inv-loop μ-loop
-word-requires c κs = ?
+word-requires c κs = search needs
 
--- src/building.rt:161:9
 mul-words : tie.Need-mul-words Inv-loop μ-loop
-mul-words c = ?
+mul-words c = search needs
 
--- src/building.rt:161:9
 slice-write-words : tie.Need-slice-write-words Inv-loop μ-loop
-slice-write-words c = ?
+slice-write-words c = search needs
 
--- src/building.rt:162:9
 add-i : tie.Need-add-i Inv-loop μ-loop
-add-i c = ?
+add-i c = search needs
 
--- src/building.rt:160:5
 loop-less : tie.Need-loop-less Inv-loop μ-loop
-loop-less c = ?
+loop-less c = search needs
 
--- src/building.rt:160:5
 loop-again : tie.Need-loop-again Inv-loop μ-loop
-loop-again c = ?
+loop-again c = search needs
 
--- src/building.rt:158:1
 same-length : tie.Need-same-length Inv-loop μ-loop
-same-length c = ?
+same-length c = search needs
 
--- src/building.rt:158:1
 returns : tie.Need-returns Inv-loop μ-loop
-returns c = ?
+returns c = search needs
 
 pub fill-words-spec : {M : Type 1} → statement M
 fill-words-spec =

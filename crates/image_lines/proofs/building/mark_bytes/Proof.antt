@@ -1,41 +1,37 @@
+-- The place reached is within the list.
+use mathlib.Core.Path.{_≡_}
+use Prim.Native.Nat.{_-_, _≤_}
+use borrow.Author.Needs.{needs}
+use lib.ListN.{length}
 use Rattle.image_lines.proofs.building.mark_bytes.Statement.{statement}
 use Rattle.image_lines.proofs.building.mark_bytes.Tie as tie
-use Rattle.image_lines.proofs.building.mark_bytes.Reads as reads
-use Rattle.image_lines.proofs.building.mark_bytes.Lts as lts
 
 abbrev Inv-loop : tie.InvT-loop
-Inv-loop bytes₀ mark i₀ bytes i = ?
+Inv-loop bytes₀ mark i₀ bytes i = (i ≤ length bytes₀) × (length bytes ≡ length bytes₀)
 
 abbrev μ-loop : tie.MeasureT-loop
-μ-loop bytes₀ mark i₀ bytes i = ?
+μ-loop bytes₀ mark i₀ bytes i = length bytes₀ - i
 
--- src/building.rt:151:5
 loop-holds : tie.Need-loop-holds Inv-loop μ-loop
-loop-holds c = ?
+loop-holds c = search needs
 
--- src/building.rt:152:9
 slice-write-bytes : tie.Need-slice-write-bytes Inv-loop μ-loop
-slice-write-bytes c = ?
+slice-write-bytes c = search needs
 
--- src/building.rt:153:9
 add-i : tie.Need-add-i Inv-loop μ-loop
-add-i c = ?
+add-i c = search needs
 
--- src/building.rt:151:5
 loop-less : tie.Need-loop-less Inv-loop μ-loop
-loop-less c = ?
+loop-less c = search needs
 
--- src/building.rt:151:5
 loop-again : tie.Need-loop-again Inv-loop μ-loop
-loop-again c = ?
+loop-again c = search needs
 
--- src/building.rt:149:1
 same-length : tie.Need-same-length Inv-loop μ-loop
-same-length c = ?
+same-length c = search needs
 
--- src/building.rt:149:1
 returns : tie.Need-returns Inv-loop μ-loop
-returns c = ?
+returns c = search needs
 
 pub mark-bytes-spec : {M : Type 1} → statement M
 mark-bytes-spec =

@@ -1,45 +1,40 @@
+-- The place reached is within the list.
+use mathlib.Core.Path.{_≡_}
+use Prim.Native.Nat.{_-_, _≤_}
+use borrow.Author.Needs.{needs}
+use lib.ListN.{length}
 use Rattle.image_lines.proofs.building.mark_sets.Statement.{statement}
 use Rattle.image_lines.proofs.building.mark_sets.Tie as tie
-use Rattle.image_lines.proofs.building.mark_sets.Reads as reads
-use Rattle.image_lines.proofs.building.mark_sets.Lts as lts
 
 abbrev Inv-loop : tie.InvT-loop
-Inv-loop sets₀ mark i₀ sets i = ?
+Inv-loop sets₀ mark i₀ sets i = (i ≤ length sets₀) × (length sets ≡ length sets₀)
 
 abbrev μ-loop : tie.MeasureT-loop
-μ-loop sets₀ mark i₀ sets i = ?
+μ-loop sets₀ mark i₀ sets i = length sets₀ - i
 
--- src/building.rt:143:5
 loop-holds : tie.Need-loop-holds Inv-loop μ-loop
-loop-holds c = ?
+loop-holds c = search needs
 
--- src/building.rt:144:9
 mul-sets : tie.Need-mul-sets Inv-loop μ-loop
-mul-sets c = ?
+mul-sets c = search needs
 
--- src/building.rt:144:9
 slice-write-sets : tie.Need-slice-write-sets Inv-loop μ-loop
-slice-write-sets c = ?
+slice-write-sets c = search needs
 
--- src/building.rt:145:9
 add-i : tie.Need-add-i Inv-loop μ-loop
-add-i c = ?
+add-i c = search needs
 
--- src/building.rt:143:5
 loop-less : tie.Need-loop-less Inv-loop μ-loop
-loop-less c = ?
+loop-less c = search needs
 
--- src/building.rt:143:5
 loop-again : tie.Need-loop-again Inv-loop μ-loop
-loop-again c = ?
+loop-again c = search needs
 
--- src/building.rt:141:1
 same-length : tie.Need-same-length Inv-loop μ-loop
-same-length c = ?
+same-length c = search needs
 
--- src/building.rt:141:1
 returns : tie.Need-returns Inv-loop μ-loop
-returns c = ?
+returns c = search needs
 
 pub mark-sets-spec : {M : Type 1} → statement M
 mark-sets-spec =

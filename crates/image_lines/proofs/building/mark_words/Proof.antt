@@ -1,45 +1,40 @@
+-- The place reached is within the list.
+use mathlib.Core.Path.{_≡_}
+use Prim.Native.Nat.{_-_, _≤_}
+use borrow.Author.Needs.{needs}
+use lib.ListN.{length}
 use Rattle.image_lines.proofs.building.mark_words.Statement.{statement}
 use Rattle.image_lines.proofs.building.mark_words.Tie as tie
-use Rattle.image_lines.proofs.building.mark_words.Reads as reads
-use Rattle.image_lines.proofs.building.mark_words.Lts as lts
 
 abbrev Inv-loop : tie.InvT-loop
-Inv-loop words₀ mark i₀ words i = ?
+Inv-loop words₀ mark i₀ words i = (i ≤ length words₀) × (length words ≡ length words₀)
 
 abbrev μ-loop : tie.MeasureT-loop
-μ-loop words₀ mark i₀ words i = ?
+μ-loop words₀ mark i₀ words i = length words₀ - i
 
--- src/building.rt:135:5
 loop-holds : tie.Need-loop-holds Inv-loop μ-loop
-loop-holds c = ?
+loop-holds c = search needs
 
--- src/building.rt:136:9
 mul-words : tie.Need-mul-words Inv-loop μ-loop
-mul-words c = ?
+mul-words c = search needs
 
--- src/building.rt:136:9
 slice-write-words : tie.Need-slice-write-words Inv-loop μ-loop
-slice-write-words c = ?
+slice-write-words c = search needs
 
--- src/building.rt:137:9
 add-i : tie.Need-add-i Inv-loop μ-loop
-add-i c = ?
+add-i c = search needs
 
--- src/building.rt:135:5
 loop-less : tie.Need-loop-less Inv-loop μ-loop
-loop-less c = ?
+loop-less c = search needs
 
--- src/building.rt:135:5
 loop-again : tie.Need-loop-again Inv-loop μ-loop
-loop-again c = ?
+loop-again c = search needs
 
--- src/building.rt:133:1
 same-length : tie.Need-same-length Inv-loop μ-loop
-same-length c = ?
+same-length c = search needs
 
--- src/building.rt:133:1
 returns : tie.Need-returns Inv-loop μ-loop
-returns c = ?
+returns c = search needs
 
 pub mark-words-spec : {M : Type 1} → statement M
 mark-words-spec =

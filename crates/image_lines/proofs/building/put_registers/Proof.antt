@@ -1,47 +1,40 @@
+-- The place reached is within the list.
+use mathlib.Core.Path.{_≡_}
+use Prim.Native.Nat.{_+_, _-_, _*_, _≤_}
+use borrow.Author.Needs.{needs}
+use lib.ListN.{length}
 use Rattle.image_lines.proofs.building.put_registers.Statement.{statement}
 use Rattle.image_lines.proofs.building.put_registers.Tie as tie
-use Rattle.image_lines.proofs.building.put_registers.Reads as reads
-use Rattle.image_lines.proofs.building.put_registers.Lts as lts
-use Rattle.image_lines.proofs.building.put.Reads as put-reads
-use Rattle.image_lines.proofs.building.register.Reads as register-reads
 
 abbrev Inv-loop : tie.InvT-loop
-Inv-loop bytes₀ at k place₀ i₀ bytes place i = ?
+Inv-loop bytes₀ at k place₀ i₀ bytes place i = (i ≤ k) × (place ≡ at + 4 * i) × (length bytes ≡ length bytes₀)
 
 abbrev μ-loop : tie.MeasureT-loop
-μ-loop bytes₀ at k place₀ i₀ bytes place i = ?
+μ-loop bytes₀ at k place₀ i₀ bytes place i = k - i
 
--- src/building.rt:96:5
 loop-holds : tie.Need-loop-holds Inv-loop μ-loop
-loop-holds c = ?
+loop-holds c = search needs
 
--- src/building.rt:97:35
 register-requires : tie.Need-register-requires Inv-loop μ-loop
-register-requires c κs = ?
+register-requires c κs = search needs
 
--- src/building.rt:97:9
 put-requires : tie.Need-put-requires Inv-loop μ-loop
-put-requires c κs = ?
+put-requires c κs = search needs
 
--- src/building.rt:98:9
 add-i : tie.Need-add-i Inv-loop μ-loop
-add-i c = ?
+add-i c = search needs
 
--- src/building.rt:96:5
 loop-less : tie.Need-loop-less Inv-loop μ-loop
-loop-less c = ?
+loop-less c = search needs
 
--- src/building.rt:96:5
 loop-again : tie.Need-loop-again Inv-loop μ-loop
-loop-again c = ?
+loop-again c = search needs
 
--- src/building.rt:90:1
 same-length : tie.Need-same-length Inv-loop μ-loop
-same-length c = ?
+same-length c = search needs
 
--- src/building.rt:90:1
 returns : tie.Need-returns Inv-loop μ-loop
-returns c = ?
+returns c = search needs
 
 pub put-registers-spec : {M : Type 1} → statement M
 put-registers-spec =

@@ -1,49 +1,43 @@
+-- The place reached is within the list.
+use mathlib.Core.Path.{_≡_}
+use Prim.Native.Nat.{_-_, _≤_}
+use borrow.Author.Needs.{needs}
+use lib.ListN.{length}
 use Rattle.image_lines.proofs.building.same.Statement.{statement}
 use Rattle.image_lines.proofs.building.same.Tie as tie
-use Rattle.image_lines.proofs.building.same.Reads as reads
-use Rattle.image_lines.proofs.building.same.Lts as lts
 
 abbrev Inv-loop : tie.InvT-loop
-Inv-loop one other i₀ i = ?
+Inv-loop one other i₀ i = (i ≤ length one) × (length one ≡ length other)
 
 abbrev μ-loop : tie.MeasureT-loop
-μ-loop one other i₀ i = ?
+μ-loop one other i₀ i = length one - i
 
--- src/building.rt:203:9
 returns : tie.Need-returns Inv-loop μ-loop
-returns c = ?
+returns c = search needs
 
--- src/building.rt:206:5
 loop-holds : tie.Need-loop-holds Inv-loop μ-loop
-loop-holds c = ?
+loop-holds c = search needs
 
--- src/building.rt:207:12
 shared-slice-read-if2 : tie.Need-shared-slice-read-if2 Inv-loop μ-loop
-shared-slice-read-if2 c = ?
+shared-slice-read-if2 c = search needs
 
--- src/building.rt:207:22
 shared-slice-read-if2-2 : tie.Need-shared-slice-read-if2-2 Inv-loop μ-loop
-shared-slice-read-if2-2 c = ?
+shared-slice-read-if2-2 c = search needs
 
--- src/building.rt:208:13
 returns-2 : tie.Need-returns-2 Inv-loop μ-loop
-returns-2 c = ?
+returns-2 c = search needs
 
--- src/building.rt:210:9
 add-i : tie.Need-add-i Inv-loop μ-loop
-add-i c = ?
+add-i c = search needs
 
--- src/building.rt:206:5
 loop-less : tie.Need-loop-less Inv-loop μ-loop
-loop-less c = ?
+loop-less c = search needs
 
--- src/building.rt:206:5
 loop-again : tie.Need-loop-again Inv-loop μ-loop
-loop-again c = ?
+loop-again c = search needs
 
--- src/building.rt:201:1
 returns-3 : tie.Need-returns-3 Inv-loop μ-loop
-returns-3 c = ?
+returns-3 c = search needs
 
 pub same-spec : {M : Type 1} → statement M
 same-spec =

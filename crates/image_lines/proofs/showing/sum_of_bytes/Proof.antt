@@ -1,46 +1,40 @@
+-- The sum stays below its modulus.
+use Prim.Native.Nat.{_-_, _≤_, _<_}
+use borrow.Author.Needs.{needs}
+use lib.ListN.{length}
+use native.Mathlib.Omega.{arith}
 use Rattle.image_lines.proofs.showing.sum_of_bytes.Statement.{statement}
 use Rattle.image_lines.proofs.showing.sum_of_bytes.Tie as tie
-use Rattle.image_lines.proofs.showing.sum_of_bytes.Reads as reads
-use Rattle.image_lines.proofs.showing.sum_of_bytes.Lts as lts
-use Rattle.image_lines.proofs.showing.mixed.Reads as mixed-reads
 
 abbrev Inv-loop : tie.InvT-loop
-Inv-loop list sum₀ i₀ sum i = ?
+Inv-loop list sum₀ i₀ sum i = (i ≤ length list) × (sum < 1000003)
 
 abbrev μ-loop : tie.MeasureT-loop
-μ-loop list sum₀ i₀ sum i = ?
+μ-loop list sum₀ i₀ sum i = length list - i
 
--- src/showing.rt:40:5
 loop-holds : tie.Need-loop-holds Inv-loop μ-loop
-loop-holds c = ?
+loop-holds c = search needs
 
--- src/showing.rt:41:26
 shared-slice-read-mixed : tie.Need-shared-slice-read-mixed Inv-loop μ-loop
-shared-slice-read-mixed c = ?
+shared-slice-read-mixed c = search needs
 
--- src/showing.rt:41:26
 cast-mixed : tie.Need-cast-mixed Inv-loop μ-loop
-cast-mixed c = ?
+cast-mixed c = omega (arith, c .shared-slice-known2 .given (c .before .before .loop .i))
 
--- src/showing.rt:41:9
 mixed-requires : tie.Need-mixed-requires Inv-loop μ-loop
-mixed-requires c κs = ?
+mixed-requires c κs = search needs
 
--- src/showing.rt:42:9
 add-i : tie.Need-add-i Inv-loop μ-loop
-add-i c = ?
+add-i c = search needs
 
--- src/showing.rt:40:5
 loop-less : tie.Need-loop-less Inv-loop μ-loop
-loop-less c = ?
+loop-less c = search needs
 
--- src/showing.rt:40:5
 loop-again : tie.Need-loop-again Inv-loop μ-loop
-loop-again c = ?
+loop-again c = search needs
 
--- src/showing.rt:37:1
 returns : tie.Need-returns Inv-loop μ-loop
-returns c = ?
+returns c = search needs
 
 pub sum-of-bytes-spec : {M : Type 1} → statement M
 sum-of-bytes-spec =

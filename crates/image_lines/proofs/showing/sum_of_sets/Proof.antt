@@ -1,46 +1,39 @@
+-- The sum stays below its modulus.
+use Prim.Native.Nat.{_-_, _≤_, _<_}
+use borrow.Author.Needs.{needs}
+use lib.ListN.{length}
 use Rattle.image_lines.proofs.showing.sum_of_sets.Statement.{statement}
 use Rattle.image_lines.proofs.showing.sum_of_sets.Tie as tie
-use Rattle.image_lines.proofs.showing.sum_of_sets.Reads as reads
-use Rattle.image_lines.proofs.showing.sum_of_sets.Lts as lts
-use Rattle.image_lines.proofs.showing.mixed.Reads as mixed-reads
 
 abbrev Inv-loop : tie.InvT-loop
-Inv-loop list sum₀ i₀ sum i = ?
+Inv-loop list sum₀ i₀ sum i = (i ≤ length list) × (sum < 1000003)
 
 abbrev μ-loop : tie.MeasureT-loop
-μ-loop list sum₀ i₀ sum i = ?
+μ-loop list sum₀ i₀ sum i = length list - i
 
--- src/showing.rt:60:5
 loop-holds : tie.Need-loop-holds Inv-loop μ-loop
-loop-holds c = ?
+loop-holds c = search needs
 
--- src/showing.rt:61:26
 mul-mixed : tie.Need-mul-mixed Inv-loop μ-loop
-mul-mixed c = ?
+mul-mixed c = search needs
 
--- src/showing.rt:61:26
 shared-slice-read-mixed : tie.Need-shared-slice-read-mixed Inv-loop μ-loop
-shared-slice-read-mixed c = ?
+shared-slice-read-mixed c = search needs
 
--- src/showing.rt:61:9
 mixed-requires : tie.Need-mixed-requires Inv-loop μ-loop
-mixed-requires c κs = ?
+mixed-requires c κs = search needs
 
--- src/showing.rt:62:9
 add-i : tie.Need-add-i Inv-loop μ-loop
-add-i c = ?
+add-i c = search needs
 
--- src/showing.rt:60:5
 loop-less : tie.Need-loop-less Inv-loop μ-loop
-loop-less c = ?
+loop-less c = search needs
 
--- src/showing.rt:60:5
 loop-again : tie.Need-loop-again Inv-loop μ-loop
-loop-again c = ?
+loop-again c = search needs
 
--- src/showing.rt:57:1
 returns : tie.Need-returns Inv-loop μ-loop
-returns c = ?
+returns c = search needs
 
 pub sum-of-sets-spec : {M : Type 1} → statement M
 sum-of-sets-spec =
