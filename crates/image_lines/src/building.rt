@@ -1,5 +1,5 @@
 // Images put together byte by byte, apart from the writer, and memories that hold marks.
-ghost use Prim.Native.Nat.{_+_, _*_, _≤_};
+ghost use Prim.Native.Nat.{_+_, _≤_};
 ghost use mathlib.Core.Path.{_≡_};
 ghost use lib.ListN.{length};
 

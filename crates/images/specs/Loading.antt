@@ -4,7 +4,7 @@ use mathlib.Core.Bool.{Bool, true, false, _&&_, not}
 use mathlib.Core.List.{List, _++_}
 use Prim.Native.Nat.{ℕ, _+_, _-_, _*_, _≤_}
 use native.Mathlib.Omega.{arith}
-use borrow.Author.Tests.{eqb-true, eqb-false, eq-eqb, ne-eqb, not-true, not-false}
+use borrow.Author.Tests.{eqb-true, eqb-false, ne-eqb, not-true, not-false}
 use lib.Dec.{eqb}
 use lib.ListN.{length, replicate}
 use Rattle.common.specs.Answers as answer
@@ -12,7 +12,7 @@ use Rattle.common.specs.Tests.{both}
 use Rattle.rules.specs.Compartments.{empty, services}
 use Rattle.rules.specs.State.{Processor, State}
 use Rattle.rules.specs.Checks.{sameLengths}
-use Rattle.rules.specs.Images.{field, fields, sizeIn, registersAt, registersIn, entryAt, entryIn, wordsOf, regsOf, imageVerdict, loadVerdict, fresh, blank, over, loaded, notLoaded, Loaded, load}
+use Rattle.rules.specs.Images.{field, fields, sizeIn, registersAt, registersIn, entryAt, entryIn, regsOf, imageVerdict, loadVerdict, fresh, blank, over, loaded, notLoaded, load}
 use Rattle.images.specs.Accepted.{Accepted, accepted}
 use Rattle.images.specs.Filling.{length-fields}
 use Rattle.images.specs.Promises.{lent}
@@ -35,10 +35,10 @@ pub record Placed (bytes : List ℕ) (size count : ℕ) : Type 0 where
   pub length-is : length bytes ≡ 16 + 4 * size + 4 * count
 
 module _ (room : ℕ) (bytes : List ℕ) (a : Accepted room bytes) (size : ℕ) (s : size ≡ sizeIn bytes) (at : ℕ) (e : at ≡ 4 + 4 * size) (count : ℕ) (r : count ≡ field bytes at) where
-  pub at-is : at ≡ registersAt bytes
+  at-is : at ≡ registersAt bytes
   at-is = omega arith
 
-  pub count-is : count ≡ registersIn bytes
+  count-is : count ≡ registersIn bytes
   count-is = r ∙ ap (field bytes) at-is
 
   pub placed : Placed bytes size count

@@ -6,7 +6,7 @@ ghost use mathlib.Core.List.{_++_};
 ghost use lib.Dec.{eqb};
 ghost use lib.ListN.{length, replicate};
 ghost use Rattle.common.specs.Answers as answer;
-ghost use Rattle.rules.specs.Images.{fields, sizeIn, registersIn, lastListed, entryVerdict, registersVerdict, imageVerdict};
+ghost use Rattle.rules.specs.Images.{fields, lastListed, entryVerdict, registersVerdict, imageVerdict};
 ghost use Rattle.images.specs.Reading.{Sized, Counted, said, saidBy};
 use crate::numbers::field;
 
