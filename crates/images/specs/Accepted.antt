@@ -1,5 +1,5 @@
 -- What acceptance says of an image, and that an image of which this holds is accepted.
-use mathlib.Core.Path.{_≡_, refl, ap, _∙_}
+use mathlib.Core.Path.{_≡_, refl}
 use mathlib.Core.Bool.{Bool, true, false, cond, _&&_}
 use mathlib.Core.List.{List}
 use Prim.Native.Nat.{ℕ, _+_, _*_, _≤_, _<_}
@@ -63,15 +63,15 @@ accepts lent bytes a =
     let l = a .length-is in
     simp (le-leb 4 (length bytes) (omega arith), le-leb 1 (sizeIn bytes) (a .size-least), le-leb (sizeIn bytes) 2048 (a .size-most), le-leb (sizeIn bytes) lent (a .size-lent), le-leb (4 + 4 * sizeIn bytes) (length bytes) (omega arith), le-leb (registersAt bytes + 4) (length bytes) (omega arith), le-leb (registersIn bytes) 16 (a .count-most), le-leb (registersAt bytes + 4 + 4 * registersIn bytes) (length bytes) (omega arith), a .last, le-leb (entryAt bytes + 4) (length bytes) (omega arith), eq-eqb (field bytes (entryAt bytes)) 1 (a .one-entry), le-leb (entryAt bytes + 8) (length bytes) (omega arith), lt-ltb (entryIn bytes) (sizeIn bytes) (a .entry-below), eq-eqb (length bytes) (entryAt bytes + 8) (omega arith))
 
--- ---- over lent memories
+-- ---- over lent memories, which have one length
 
-pub record Fits (bytes : List ℕ) (old : State) : Type 0 where
+pub record AcceptedOver (bytes : List ℕ) (old : State) : Type 0 where
   pub owners : length (old .owners) ≡ length (old .words)
   pub jumpers : length (old .jumpers) ≡ length (old .words)
   pub writers : length (old .writers) ≡ length (old .words)
   pub image : Accepted (length (old .words)) bytes
 
-pub load-accepted : (bytes : List ℕ) (old : State) → load bytes old .answer ≡ answer.done → Fits bytes old
+pub load-accepted : (bytes : List ℕ) (old : State) → load bytes old .answer ≡ answer.done → AcceptedOver bytes old
 unfolding load loadVerdict sameLengths
 load-accepted bytes old h =
     let lengths = passed (sameLengths old) _ 27 (omega arith) h in
@@ -79,7 +79,7 @@ load-accepted bytes old h =
     let y = both (eqb (length (old .owners)) (length (old .words))) _ (x .0) in
     record { owners = eqb-true _ _ (y .0); jumpers = eqb-true _ _ (y .1); writers = eqb-true _ _ (x .1); image = accepted _ bytes (lengths .1) }
 
-pub accepts-load : (bytes : List ℕ) (old : State) → Fits bytes old → load bytes old .answer ≡ answer.done
+pub accepts-load : (bytes : List ℕ) (old : State) → AcceptedOver bytes old → load bytes old .answer ≡ answer.done
 unfolding load loadVerdict sameLengths
 accepts-load bytes old f =
     simp (eq-eqb _ _ (f .owners), eq-eqb _ _ (f .jumpers), eq-eqb _ _ (f .writers)) (accepts _ bytes (f .image))

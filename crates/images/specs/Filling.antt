@@ -1,8 +1,8 @@
 -- A front of numbers over what a list held, as it grows place by place, and stores that follow one another.
 use mathlib.Core.Path.{_≡_, refl, sym, ap, _∙_}
-use mathlib.Core.List.{List, [], _∷_, _++_, append-nil}
+use mathlib.Core.List.{List, [], _∷_, _++_}
 use Prim.Native.Nat.{ℕ, zero, suc, _+_, _-_, _*_, _/_, _%_, _<_, _≤_}
-use native.Mathlib.Nat.{add-zero, zero-add, add-suc, suc-add}
+use native.Mathlib.Nat.{add-zero, zero-add}
 use native.Mathlib.Numerals.{add-one}
 use native.Mathlib.Omega.{arith}
 use lib.ListN.{getD, length, set, take, drop, replicate, length-append, length-replicate, replicate-append-replicate}
@@ -12,7 +12,7 @@ use Rattle.rules.specs.Images.{field, fields, over, fourBytes, allBytes, sectio
 -- ---- one place more
 
 -- the front with one number more
-pub over-more : (front next old : List ℕ) (i v : ℕ) → length front ≡ i → i < length old → next ≡ front ++ (v ∷ [])
+over-more : (front next old : List ℕ) (i v : ℕ) → length front ≡ i → i < length old → next ≡ front ++ (v ∷ [])
     → set (over front old) i v ≡ over next old
 over-more front next old i v e h n =
     let l : length next ≡ suc i = ap length n ∙ length-append front (v ∷ []) ∙ add-one (length front) ∙ ap suc e in
@@ -86,7 +86,7 @@ four-stores out at x =
     let three : at + 3 ≡ suc (suc (suc at)) = omega arith in
     simp (one, two, three)
 
-pub length-all-bytes : (xs : List ℕ) → length (allBytes xs) ≡ 4 * length xs
+length-all-bytes : (xs : List ℕ) → length (allBytes xs) ≡ 4 * length xs
 unfolding allBytes
 length-all-bytes [] = refl
 length-all-bytes (x ∷ xs) = let ih = length-all-bytes xs in omega arith

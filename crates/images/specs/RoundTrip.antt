@@ -9,13 +9,13 @@ use lib.Arith.{digits-div}
 use native.Mathlib.Omega.{arith}
 use borrow.Author.Tests.{ltb-true, lt-ltb, eqb-true, eqb-false, eq-eqb, ne-eqb}
 use lib.Dec.{ltb, eqb}
-use lib.ListN.{getD, length, take, drop, replicate, length-append, List·getD-append, List·getD-eq-default}
+use lib.ListN.{getD, length, take, drop, replicate, length-append, List·getD-append}
 use lib.Seq.{drop-cons, drop-drop, drop-append-add, take-add, take-all, take-append-seam, take-at, getD-append-add, getD-take}
 use Rattle.common.specs.Answers as answer
 use Rattle.rules.specs.State.{State}
-use Rattle.rules.specs.Images.{field, fields, sizeIn, registersAt, registersIn, entryAt, entryIn, wordsOf, regsOf, lastListed, loadVerdict, fresh, over, loaded, load, fourBytes, allBytes, section, listed, imageBytes, Written, write}
-use Rattle.images.specs.Accepted.{Accepted, Fits, load-accepted, accepts-load}
-use Rattle.images.specs.Filling.{length-fields, getD-fields, length-all-bytes, all-bytes-append}
+use Rattle.rules.specs.Images.{field, fields, sizeIn, registersAt, registersIn, entryAt, entryIn, wordsOf, regsOf, lastListed, over, loaded, load, fourBytes, allBytes, section, listed, imageBytes, Written, write}
+use Rattle.images.specs.Accepted.{Accepted, load-accepted, accepts-load}
+use Rattle.images.specs.Filling.{length-fields, getD-fields, all-bytes-append}
 use Rattle.images.specs.Listed.{listed-short, listed-last, listed-take, listed-rest, listed-front}
 use Rattle.images.specs.Writing.{length-image, written}
 

@@ -1,11 +1,11 @@
 -- The reader's checks one by one, as the code comes to them: each return is the rules' verdict.
-use mathlib.Core.Path.{_≡_, sym, ap, _∙_}
-use mathlib.Core.Bool.{Bool, true, false, not}
+use mathlib.Core.Path.{_≡_, refl, sym, ap, _∙_}
+use mathlib.Core.Bool.{Bool, true, false, cond}
 use mathlib.Core.List.{List}
 use Prim.Native.Nat.{ℕ, _+_, _*_, _≤_, _<_}
 use native.Mathlib.Omega.{arith}
-use borrow.Author.Tests.{lt-ltb, le-ltb, le-leb, lt-leb, eq-eqb, ne-eqb, not-true, not-false}
-use lib.Dec.{eqb, ltb}
+use borrow.Author.Tests.{lt-ltb, le-ltb, le-leb, lt-leb, eq-eqb, ne-eqb}
+use lib.Dec.{eqb}
 use lib.ListN.{length}
 use Rattle.common.specs.Answers as answer
 use Rattle.rules.specs.Images.{field, sizeIn, registersAt, registersIn, entryAt, lastListed, entryVerdict, registersVerdict, imageVerdict}
@@ -73,19 +73,35 @@ module _ (bytes : List ℕ) (size count : ℕ) (k : Counted bytes size count) (a
 -- ---- from the register count on, which stands at `at`
 
 -- none is listed
-pub no-last : (bytes : List ℕ) (size count : ℕ) → Counted bytes size count → count ≡ 0 → true ≡ lastListed bytes
+pub no-last : (bytes : List ℕ) (size count : ℕ) → Counted bytes size count → count ≡ 0 → answer.done ≡ cond (lastListed bytes) answer.done answer.last-zero
 unfolding lastListed
 no-last bytes size count k z = simp (eq-eqb (registersIn bytes) 0 (sym (k .count-is) ∙ z))
 
 -- the last of those that are
-pub some-last : (bytes : List ℕ) (size count : ℕ) → Counted bytes size count → (count ≡ 0 → ⊥)
-    → (at last : ℕ) → at ≡ 4 + 4 * size → last ≡ field bytes (at + 4 * count) → ltb 0 last ≡ lastListed bytes
-unfolding lastListed
-some-last bytes size count k ne at last e f =
-    let s = k .size-is in
-    let r = k .count-is in
-    let p : at + 4 * count ≡ registersAt bytes + 4 * registersIn bytes = omega arith in
-    simp (ne-eqb (registersIn bytes) 0 (λ z. ne (r ∙ z)), f, p)
+module _ (bytes : List ℕ) (size count : ℕ) (k : Counted bytes size count) (some : count ≡ 0 → ⊥) (at last : ℕ) (e : at ≡ 4 + 4 * size) (f : last ≡ field bytes (at + 4 * count)) where
+  last-is : last ≡ field bytes (registersAt bytes + 4 * registersIn bytes)
+  last-is =
+      let s = k .size-is in
+      let r = k .count-is in
+      let p : at + 4 * count ≡ registersAt bytes + 4 * registersIn bytes = omega arith in
+      f ∙ ap (field bytes) p
+
+  pub zero-last : last ≡ 0 → answer.last-zero ≡ cond (lastListed bytes) answer.done answer.last-zero
+  unfolding lastListed
+  zero-last z =
+      let l = last-is in
+      simp (ne-eqb (registersIn bytes) 0 (λ q. some (k .count-is ∙ q)), le-ltb 0 (field bytes (registersAt bytes + 4 * registersIn bytes)) (omega arith))
+
+  pub some-last : (last ≡ 0 → ⊥) → answer.done ≡ cond (lastListed bytes) answer.done answer.last-zero
+  unfolding lastListed
+  some-last ne =
+      let l = last-is in
+      simp (ne-eqb (registersIn bytes) 0 (λ q. some (k .count-is ∙ q)), lt-ltb 0 (field bytes (registersAt bytes + 4 * registersIn bytes)) (omega arith))
+
+-- 23 goes before whatever comes after
+first : (t : Bool) (rest : ℕ) → cond (eqb (cond t 0 23) 0) rest (cond t 0 23) ≡ cond t rest 23
+first true rest = refl
+first false rest = refl
 
 module _ (bytes : List ℕ) (size : ℕ) (k : Sized bytes size) (at : ℕ) (e : at ≡ 4 + 4 * size) where
   at-registers : at ≡ registersAt bytes
@@ -122,22 +138,14 @@ module _ (bytes : List ℕ) (size : ℕ) (k : Sized bytes size) (at : ℕ) (e : 
             let c = count-is in
             simp (le-leb (registersAt bytes + 4) (length bytes) (omega arith), le-leb (registersIn bytes) 16 (omega arith), lt-leb (registersAt bytes + 4 + 4 * registersIn bytes) (length bytes) (omega arith))
 
-        module _ (v : end ≤ length bytes) (last : Bool) (g : last ≡ lastListed bytes) where
-          pub last-zero : not last ≡ true → answer.last-zero ≡ registersVerdict bytes
-          unfolding registersVerdict
-          last-zero h =
-              let p = at-registers in
-              let q = at-end in
-              let c = count-is in
-              simp (le-leb (registersAt bytes + 4) (length bytes) (omega arith), le-leb (registersIn bytes) 16 (omega arith), le-leb (registersAt bytes + 4 + 4 * registersIn bytes) (length bytes) (omega arith), sym g ∙ not-true last h)
-
-          pub registers-pass : not last ≡ false → (r : ℕ) → r ≡ entryVerdict bytes → r ≡ registersVerdict bytes
-          unfolding registersVerdict
-          registers-pass h r i =
-              let p = at-registers in
-              let q = at-end in
-              let c = count-is in
-              simp (le-leb (registersAt bytes + 4) (length bytes) (omega arith), le-leb (registersIn bytes) 16 (omega arith), le-leb (registersAt bytes + 4 + 4 * registersIn bytes) (length bytes) (omega arith), sym g ∙ not-false last h) i
+        pub registers-pass : end ≤ length bytes → (last entry r : ℕ) → last ≡ cond (lastListed bytes) answer.done answer.last-zero
+            → entry ≡ entryVerdict bytes → r ≡ cond (eqb last answer.done) entry last → r ≡ registersVerdict bytes
+        unfolding registersVerdict
+        registers-pass v last entry r hl he hr =
+            let p = at-registers in
+            let q = at-end in
+            let c = count-is in
+            hr ∙ simp (hl, he) (simp (le-leb (registersAt bytes + 4) (length bytes) (omega arith), le-leb (registersIn bytes) 16 (omega arith), le-leb (registersAt bytes + 4 + 4 * registersIn bytes) (length bytes) (omega arith)) (first (lastListed bytes) (entryVerdict bytes)))
 
 -- ---- from the start
 

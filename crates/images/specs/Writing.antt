@@ -1,5 +1,5 @@
 -- The writer's returns, in the form in which the code comes to them.
-use mathlib.Core.Path.{_≡_, refl, sym, ap, _∙_}
+use mathlib.Core.Path.{_≡_, sym, ap, _∙_}
 use mathlib.Core.List.{List, [], _∷_, _++_}
 use Prim.Native.Nat.{ℕ, _+_, _*_, _≤_, _<_}
 use native.Mathlib.Omega.{arith}
@@ -7,7 +7,7 @@ use borrow.Author.Tests.{lt-ltb, le-ltb, le-leb, lt-leb}
 use lib.ListN.{length, take, length-append}
 use lib.Seq.{sets, take-all}
 use Rattle.common.specs.Answers as answer
-use Rattle.rules.specs.Images.{section, listed, imageBytes, over, Written, write, writeVerdict}
+use Rattle.rules.specs.Images.{section, listed, imageBytes, over, write, writeVerdict}
 use Rattle.images.specs.Filling.{length-section, sets-then, sets-over}
 use Rattle.images.specs.Listed.{listed-take}
 

@@ -1,13 +1,13 @@
 // Filling the first places of a lent memory; the rest keep their contents.
 ghost use mathlib.Core.Path.{_≡_};
-ghost use Prim.Native.Nat.{_+_, _*_, _≤_};
+ghost use Prim.Native.Nat.{_-_, _*_, _≤_};
 ghost use lib.ListN.{length, replicate};
 ghost use Rattle.rules.specs.Images.{fields, over};
 use crate::numbers::field;
 
 // An image's words.
 pub(crate) fn fill_words(words: &mut [u32], bytes: &[u8], n: usize)
-    requires { ⌜ (n ≤ length (now words)) × (4 + 4 * n ≤ length (now bytes)) ⌝ }
+    requires { ⌜ (n ≤ length (now words)) × (4 * n ≤ length (now bytes) - 4) ⌝ }
     ensures { λ r. ⌜ now (words .exit) ≡ over (fields (now (bytes .entry)) 4 n) (now (words .entry)) ⌝ }
 {
     let mut i = 0;

@@ -7,7 +7,7 @@ mod writing;
 ghost use mathlib.Core.Path.{_≡_};
 ghost use mathlib.Core.Bool.{_&&_};
 ghost use lib.Dec.{eqb};
-ghost use Rattle.rules.specs.Images.{load, write, fresh, blank};
+ghost use Rattle.rules.specs.Images.{load, write, fresh};
 ghost use Rattle.machine.specs.Views.{cpuOf};
 ghost use Rattle.images.specs.Promises.{loadedOf, lent, writtenOf};
 use compartments::Set;
@@ -61,14 +61,8 @@ fn same_lengths(words: usize, owners: usize, jumpers: usize, writers: usize) -> 
     writers == words
 }
 
-fn not_loaded(answer: u32) -> Loaded
-    ensures { λ r. ⌜ (cpuOf (r .cpu) ≡ blank) × (r .answer ≡ answer) ⌝ }
-{
-    let cpu = fresh(0, [0u32; 16], 0);
-    Loaded { cpu, answer }
-}
-
-// Loads an image into lent memories: all checks first, then the first N places of each are filled.
+// Loads an image into lent memories. All checks come first; a refused image says that it has 0 words, so nothing is filled
+// and the record is the blank one.
 pub fn load(
     bytes: &[u8],
     words: &mut [u32],
@@ -79,23 +73,26 @@ pub fn load(
     ensures { λ r. ⌜ loadedOf r (now (words .exit)) (now (owners .exit)) (now (jumpers .exit)) (now (writers .exit)) ≡ load (now (bytes .entry)) (lent (now (words .entry)) (now (owners .entry)) (now (jumpers .entry)) (now (writers .entry))) ⌝ }
 {
     if !same_lengths(words.len(), owners.len(), jumpers.len(), writers.len()) {
-        return not_loaded(answers::LENGTHS_DIFFER);
+        let cpu = fresh(0, [0u32; 16], 0);
+        return Loaded {
+            cpu,
+            answer: answers::LENGTHS_DIFFER,
+        };
     }
     let image = reading::read(bytes, words.len());
-    let answer = image.answer;
-    if answer != answers::DONE {
-        return not_loaded(answer);
-    }
+    let services = Set::of_services();
+    let none = Set::none();
     let n = image.size as usize;
     filling::fill_words(words, bytes, n);
     filling::fill_owners(owners, n, MAIN);
-    let services = Set::of_services();
     filling::fill_sets(jumpers, n, services.0);
-    let none = Set::none();
     filling::fill_sets(writers, n, none.0);
     let regs = image.regs;
     let cpu = fresh(image.size, regs, image.entry);
-    Loaded { cpu, answer }
+    Loaded {
+        cpu,
+        answer: image.answer,
+    }
 }
 
 fn not_written(answer: u32) -> Written

@@ -1,9 +1,12 @@
 // What an image says, or why it is refused, by reading alone.
 ghost use mathlib.Core.Path.{_≡_};
 ghost use Prim.Native.Nat.{_+_, _-_, _*_, _≤_};
+ghost use mathlib.Core.Bool.{cond};
 ghost use mathlib.Core.List.{_++_};
+ghost use lib.Dec.{eqb};
 ghost use lib.ListN.{length, replicate};
-ghost use Rattle.rules.specs.Images.{fields, sizeIn, registersIn, lastListed, entryVerdict, registersVerdict, imageVerdict};
+ghost use Rattle.common.specs.Answers as answer;
+ghost use Rattle.rules.specs.Images.{fields, lastListed, entryVerdict, registersVerdict, imageVerdict};
 ghost use Rattle.images.specs.Reading.{Sized, Counted, said, saidBy};
 use crate::numbers::field;
 
@@ -57,16 +60,29 @@ fn entry_verdict(bytes: &[u8], size: u32, count: u32) -> u32
     answers::DONE
 }
 
-// Whether no register is listed, or the last is not 0.
-fn last_listed(bytes: &[u8], size: u32, count: u32) -> bool
+// The last listed register, if one is listed.
+fn last_verdict(bytes: &[u8], size: u32, count: u32) -> u32
     requires { ⌜ (Counted (now bytes) size count) × (4 + 4 * size + 4 + 4 * count ≤ length (now bytes)) ⌝ }
-    ensures { λ r. ⌜ r ≡ lastListed (now (bytes .entry)) ⌝ }
+    ensures { λ r. ⌜ r ≡ cond (lastListed (now (bytes .entry))) answer.done answer.last-zero ⌝ }
 {
     if count == 0 {
-        return true;
+        return answers::DONE;
     }
     let last = field(bytes, registers_at(size) + 4 * (count as usize));
-    0 < last
+    if last == 0 {
+        return answers::LAST_ZERO;
+    }
+    answers::DONE
+}
+
+// The first refusal of two, or 0.
+fn first_of(one: u32, other: u32) -> u32
+    ensures { λ r. ⌜ r ≡ cond (eqb one answer.done) other one ⌝ }
+{
+    if one != answers::DONE {
+        return one;
+    }
+    other
 }
 
 // The rest from the register count on.
@@ -85,10 +101,9 @@ fn registers_verdict(bytes: &[u8], size: u32) -> u32
     if bytes.len() < entry_at(size, count) {
         return answers::NOT_WHOLE;
     }
-    if !last_listed(bytes, size, count) {
-        return answers::LAST_ZERO;
-    }
-    entry_verdict(bytes, size, count)
+    let last = last_verdict(bytes, size, count);
+    let entry = entry_verdict(bytes, size, count);
+    first_of(last, entry)
 }
 
 // What is wrong with an image first, over memories of the given length, or 0.
@@ -105,11 +120,13 @@ fn image_verdict(bytes: &[u8], lent: usize) -> u32
     if 2048 < size {
         return answers::BAD_SIZE;
     }
-    if lent < size as usize {
+    let n = size as usize;
+    let at = registers_at(size);
+    if lent < n {
         return answers::SHORT_MEMORY;
     }
-    if bytes.len() < registers_at(size) {
-        return answers::NOT_WHOLE;
+    if bytes.len() < at {
+        return answers::NOT_WHOLE; // a word
     }
     registers_verdict(bytes, size)
 }

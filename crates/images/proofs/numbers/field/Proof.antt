@@ -41,22 +41,22 @@ cast-b3 : tie.Need-cast-b3
 cast-b3 c = omega (arith, c .shared-slice-known4 .given (c .before .before .before .before .args .at + 3))
 
 mul-result : tie.Need-mul-result
-mul-result c = omega (arith, c .shared-slice-known4 .given (c .before .before .before .before .args .at + 1))
+mul-result c = let k = c .shared-slice-known4 .given in let at = c .before .before .before .before .args .at in omega (arith, k at, k (at + 1), k (at + 2), k (at + 3))
 
 add-result : tie.Need-add-result
-add-result c = omega (arith, c .shared-slice-known4 .given (c .before .before .before .before .args .at), c .shared-slice-known4 .given (c .before .before .before .before .args .at + 1))
+add-result c = let k = c .shared-slice-known4 .given in let at = c .before .before .before .before .args .at in omega (arith, k at, k (at + 1), k (at + 2), k (at + 3))
 
 mul-result-2 : tie.Need-mul-result-2
-mul-result-2 c = omega (arith, c .shared-slice-known4 .given (c .before .before .before .before .args .at + 2))
+mul-result-2 c = let k = c .shared-slice-known4 .given in let at = c .before .before .before .before .args .at in omega (arith, k at, k (at + 1), k (at + 2), k (at + 3))
 
 add-result-2 : tie.Need-add-result-2
-add-result-2 c = omega (arith, c .shared-slice-known4 .given (c .before .before .before .before .args .at), c .shared-slice-known4 .given (c .before .before .before .before .args .at + 1), c .shared-slice-known4 .given (c .before .before .before .before .args .at + 2))
+add-result-2 c = let k = c .shared-slice-known4 .given in let at = c .before .before .before .before .args .at in omega (arith, k at, k (at + 1), k (at + 2), k (at + 3))
 
 mul-result-3 : tie.Need-mul-result-3
-mul-result-3 c = omega (arith, c .shared-slice-known4 .given (c .before .before .before .before .args .at + 3))
+mul-result-3 c = let k = c .shared-slice-known4 .given in let at = c .before .before .before .before .args .at in omega (arith, k at, k (at + 1), k (at + 2), k (at + 3))
 
 add-result-3 : tie.Need-add-result-3
-add-result-3 c = omega (arith, c .shared-slice-known4 .given (c .before .before .before .before .args .at), c .shared-slice-known4 .given (c .before .before .before .before .args .at + 1), c .shared-slice-known4 .given (c .before .before .before .before .args .at + 2), c .shared-slice-known4 .given (c .before .before .before .before .args .at + 3))
+add-result-3 c = let k = c .shared-slice-known4 .given in let at = c .before .before .before .before .args .at in omega (arith, k at, k (at + 1), k (at + 2), k (at + 3))
 
 returns : tie.Need-returns
 unfolding field

@@ -16,23 +16,23 @@ returns-2 c = size-zero _ _ (c .before .before .if1 .left) _ (c .before .field .
 returns-3 : tie.Need-returns-3
 returns-3 c = size-large _ _ (c .before .before .before .if1 .left) _ (c .before .before .field .ensures) (c .before .if2 .left) (c .if3 .taken)
 
-cast-if4 : tie.Need-cast-if4
-cast-if4 c = search needs
-
-returns-4 : tie.Need-returns-4
-returns-4 c = memory-short _ _ (c .before .before .before .before .if1 .left) _ (c .before .before .before .field .ensures) (c .before .before .if2 .left) (c .before .if3 .left) (c .if4 .taken)
+cast-n : tie.Need-cast-n
+cast-n c = search needs
 
 registers-at-requires : tie.Need-registers-at-requires
 registers-at-requires c κs = search needs
 
+returns-4 : tie.Need-returns-4
+returns-4 c = memory-short _ _ (c .before .before .before .before .before .if1 .left) _ (c .before .before .before .before .field .ensures) (c .before .before .before .if2 .left) (c .before .before .if3 .left) (c .if4 .taken)
+
 returns-5 : tie.Need-returns-5
-returns-5 c = words-cut _ _ (c .before .before .before .before .before .before .if1 .left) _ (c .before .before .before .before .before .field .ensures) (c .before .before .before .before .if2 .left) (c .before .before .before .if3 .left) (c .before .before .if4 .left) _ (c .before .registers-at .ensures) (c .if5 .taken)
+returns-5 c = words-cut _ _ (c .before .before .before .before .before .before .if1 .left) _ (c .before .before .before .before .before .field .ensures) (c .before .before .before .before .if2 .left) (c .before .before .before .if3 .left) (c .before .if4 .left) _ (c .before .before .registers-at .ensures) (c .if5 .taken)
 
 registers-verdict-requires : tie.Need-registers-verdict-requires
 registers-verdict-requires c κs = search needs
 
 returns-6 : tie.Need-returns-6
-returns-6 c = words-pass _ _ (c .before .before .before .before .before .before .before .if1 .left) _ (c .before .before .before .before .before .before .field .ensures) (c .before .before .before .before .before .if2 .left) (c .before .before .before .before .if3 .left) (c .before .before .before .if4 .left) _ (c .before .before .registers-at .ensures) (c .before .if5 .left) _ (c .registers-verdict .ensures)
+returns-6 c = words-pass _ _ (c .before .before .before .before .before .before .before .if1 .left) _ (c .before .before .before .before .before .before .field .ensures) (c .before .before .before .before .before .if2 .left) (c .before .before .before .before .if3 .left) (c .before .before .if4 .left) _ (c .before .before .before .registers-at .ensures) (c .before .if5 .left) _ (c .registers-verdict .ensures)
 
 pub image-verdict-spec : {M : Type 1} → statement M
 image-verdict-spec =
@@ -42,9 +42,9 @@ image-verdict-spec =
     field-requires
     returns-2
     returns-3
-    cast-if4
-    returns-4
+    cast-n
     registers-at-requires
+    returns-4
     returns-5
     registers-verdict-requires
     returns-6)

@@ -1,6 +1,6 @@
 -- Check by check, as the laws of the verdict say.
 use native.Mathlib.Omega.{arith}
-use Rattle.images.specs.Verdicts.{count-cut, many-registers, counted, registers-cut, last-zero, registers-pass}
+use Rattle.images.specs.Verdicts.{count-cut, many-registers, counted, registers-cut, registers-pass}
 use borrow.Author.Needs.{needs}
 use Rattle.images.proofs.reading.registers_verdict.Statement.{statement}
 use Rattle.images.proofs.reading.registers_verdict.Tie as tie
@@ -26,17 +26,17 @@ entry-at-requires c κs = search needs
 returns-3 : tie.Need-returns-3
 returns-3 c = registers-cut _ _ (c .before .before .before .before .before .before .before .pre) _ (c .before .before .before .before .before .registers-at .ensures) (c .before .before .before .before .if1 .left) _ (c .before .before .before .field .ensures) (c .before .before .if2 .left) _ (c .before .entry-at .ensures) (c .if3 .taken)
 
-last-listed-requires : tie.Need-last-listed-requires
-last-listed-requires c κs = (counted _ _ (c .before .before .before .before .before .before .before .pre) _ (c .before .before .before .before .before .registers-at .ensures) (c .before .before .before .before .if1 .left) _ (c .before .before .before .field .ensures) (c .before .before .if2 .left), omega arith)
-
-returns-4 : tie.Need-returns-4
-returns-4 c = last-zero _ _ (c .before .before .before .before .before .before .before .before .before .pre) _ (c .before .before .before .before .before .before .before .registers-at .ensures) (c .before .before .before .before .before .before .if1 .left) _ (c .before .before .before .before .before .field .ensures) (c .before .before .before .before .if2 .left) _ (c .before .before .before .entry-at .ensures) (c .before .before .if3 .left) _ (c .before .last-listed .ensures) (c .if4 .taken)
+last-verdict-requires : tie.Need-last-verdict-requires
+last-verdict-requires c κs = (counted _ _ (c .before .before .before .before .before .before .before .pre) _ (c .before .before .before .before .before .registers-at .ensures) (c .before .before .before .before .if1 .left) _ (c .before .before .before .field .ensures) (c .before .before .if2 .left), omega arith)
 
 entry-verdict-requires : tie.Need-entry-verdict-requires
-entry-verdict-requires c κs = counted _ _ (c .before .before .before .before .before .before .before .before .before .pre) _ (c .before .before .before .before .before .before .before .registers-at .ensures) (c .before .before .before .before .before .before .if1 .left) _ (c .before .before .before .before .before .field .ensures) (c .before .before .before .before .if2 .left)
+entry-verdict-requires c κs = counted _ _ (c .before .before .before .before .before .before .before .before .pre) _ (c .before .before .before .before .before .before .registers-at .ensures) (c .before .before .before .before .before .if1 .left) _ (c .before .before .before .before .field .ensures) (c .before .before .before .if2 .left)
 
-returns-5 : tie.Need-returns-5
-returns-5 c = registers-pass _ _ (c .before .before .before .before .before .before .before .before .before .before .pre) _ (c .before .before .before .before .before .before .before .before .registers-at .ensures) (c .before .before .before .before .before .before .before .if1 .left) _ (c .before .before .before .before .before .before .field .ensures) (c .before .before .before .before .before .if2 .left) _ (c .before .before .before .before .entry-at .ensures) (c .before .before .before .if3 .left) _ (c .before .before .last-listed .ensures) (c .before .if4 .left) _ (c .entry-verdict .ensures)
+first-of-requires : tie.Need-first-of-requires
+first-of-requires c κs = search needs
+
+returns-4 : tie.Need-returns-4
+returns-4 c = registers-pass _ _ (c .before .before .before .before .before .before .before .before .before .before .pre) _ (c .before .before .before .before .before .before .before .before .registers-at .ensures) (c .before .before .before .before .before .before .before .if1 .left) _ (c .before .before .before .before .before .before .field .ensures) (c .before .before .before .before .before .if2 .left) _ (c .before .before .before .before .entry-at .ensures) (c .before .before .before .if3 .left) _ _ _ (c .before .before .last-verdict .ensures) (c .before .entry-verdict .ensures) (c .first-of .ensures)
 
 pub registers-verdict-spec : {M : Type 1} → statement M
 registers-verdict-spec =
@@ -49,7 +49,7 @@ registers-verdict-spec =
     returns-2
     entry-at-requires
     returns-3
-    last-listed-requires
-    returns-4
+    last-verdict-requires
     entry-verdict-requires
-    returns-5)
+    first-of-requires
+    returns-4)
