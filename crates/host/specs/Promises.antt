@@ -1,0 +1,144 @@
+-- What is seen of the host calls' outcomes, and that two outcomes of any of their promises are equal.
+use mathlib.Core.Path.{_≡_, refl}
+use mathlib.Core.List.{List, [], _∷_}
+use Prim.Native.Nat.{ℕ}
+use Rattle.common.specs.Promise.{View, once, itself}
+use Rattle.common.specs.Words as words
+use Rattle.rules.specs.State.{State}
+use Rattle.rules.specs.Step as step
+use Rattle.rules.specs.Run as run
+use Rattle.rules.specs.Images as images
+use Rattle.machine.specs.Views.{stateOf, processorOf}
+use Rattle.machine.specs.declared.Processor.{Processor}
+use Rattle.images.specs.Promises.{lent}
+
+-- ---- what the contracts see
+
+abbrev pub loadedBy : Processor → ℕ → List ℕ → List ℕ → List ℕ → List ℕ → images.Loaded
+loadedBy cpu answer words owners jumpers writers = record { answer = answer; state = stateOf cpu words owners jumpers writers }
+
+abbrev pub steppedBy : Processor → ℕ → List ℕ → List ℕ → List ℕ → List ℕ → step.Stepped
+steppedBy cpu answer words owners jumpers writers = record { answer = answer; state = stateOf cpu words owners jumpers writers }
+
+abbrev pub ranBy : Processor → ℕ → ℕ → List ℕ → List ℕ → List ℕ → List ℕ → run.Ran
+ranBy cpu answer count words owners jumpers writers = record { answer = answer; state = stateOf cpu words owners jumpers writers; count = count }
+
+-- all that a decoding hands back or may change
+pub record DecodeOutcome : Type 0 where
+  pub answer : ℕ
+  pub fields : List ℕ
+
+abbrev pub decodedBy : ℕ → List ℕ → DecodeOutcome
+decodedBy answer fields = record { answer = answer; fields = fields }
+
+-- the fields in the order in which the host gets them
+abbrev pub laidOut : words.Decoded → DecodeOutcome
+laidOut d = record { answer = d .answer; fields = d .op ∷ d .a ∷ d .b ∷ d .low ∷ [] }
+
+abbrev pub encodedBy : ℕ → ℕ → words.Encoded
+encodedBy answer word = record { answer = answer; word = word }
+
+abbrev pub writtenBy : ℕ → ℕ → List ℕ → images.Written
+writtenBy answer length out = record { answer = answer; length = length; out = out }
+
+-- ---- the calls that advance the record
+
+-- what a host keeps for a session
+pub record Session : Type 0 where
+  pub cpu : Processor
+  pub words : List ℕ
+  pub owners : List ℕ
+  pub jumpers : List ℕ
+  pub writers : List ℕ
+
+abbrev sessionOf : State → Session
+sessionOf s = record { cpu = processorOf (s .cpu); words = s .words; owners = s .owners; jumpers = s .jumpers; writers = s .writers }
+
+-- all that a load or a step hands back or may change
+pub record Outcome : Type 0 where
+  pub answer : ℕ
+  pub session : Session
+
+-- the same of a run
+pub record RunOutcome : Type 0 where
+  pub answer : ℕ
+  pub session : Session
+  pub count : ℕ
+
+abbrev load-view : View Outcome images.Loaded
+load-view =
+    record {
+      seen = λ o. loadedBy (o .session .cpu) (o .answer) (o .session .words) (o .session .owners) (o .session .jumpers) (o .session .writers);
+      back = λ m. record { answer = m .answer; session = sessionOf (m .state) };
+      whole = λ o. refl;
+    }
+
+abbrev step-view : View Outcome step.Stepped
+step-view =
+    record {
+      seen = λ o. steppedBy (o .session .cpu) (o .answer) (o .session .words) (o .session .owners) (o .session .jumpers) (o .session .writers);
+      back = λ m. record { answer = m .answer; session = sessionOf (m .state) };
+      whole = λ o. refl;
+    }
+
+abbrev run-view : View RunOutcome run.Ran
+run-view =
+    record {
+      seen = λ o. ranBy (o .session .cpu) (o .answer) (o .count) (o .session .words) (o .session .owners) (o .session .jumpers) (o .session .writers);
+      back = λ m. record { answer = m .answer; session = sessionOf (m .state); count = m .count };
+      whole = λ o. refl;
+    }
+
+pub load-once : (bytes words owners jumpers writers : List ℕ) (o p : Outcome)
+    → load-view .seen o ≡ images.load bytes (lent words owners jumpers writers)
+    → load-view .seen p ≡ images.load bytes (lent words owners jumpers writers)
+    → o ≡ p
+load-once bytes words owners jumpers writers o p = once load-view (images.load bytes (lent words owners jumpers writers)) o p
+
+pub step-once : (cpu : Processor) (words owners jumpers writers : List ℕ) (o p : Outcome)
+    → step-view .seen o ≡ step.step (stateOf cpu words owners jumpers writers)
+    → step-view .seen p ≡ step.step (stateOf cpu words owners jumpers writers)
+    → o ≡ p
+step-once cpu words owners jumpers writers o p = once step-view (step.step (stateOf cpu words owners jumpers writers)) o p
+
+pub run-once : (cpu : Processor) (words owners jumpers writers : List ℕ) (budget : ℕ) (o p : RunOutcome)
+    → run-view .seen o ≡ run.run budget (stateOf cpu words owners jumpers writers)
+    → run-view .seen p ≡ run.run budget (stateOf cpu words owners jumpers writers)
+    → o ≡ p
+run-once cpu words owners jumpers writers budget o p = once run-view (run.run budget (stateOf cpu words owners jumpers writers)) o p
+
+-- ---- the others
+
+pub decode-once : (word : ℕ) (o p : DecodeOutcome) → decodedBy (o .answer) (o .fields) ≡ laidOut (words.decode word) → decodedBy (p .answer) (p .fields) ≡ laidOut (words.decode word) → o ≡ p
+decode-once word o p = once itself (laidOut (words.decode word)) o p
+
+-- all that an encoding hands back or may change
+pub record EncodeOutcome : Type 0 where
+  pub answer : ℕ
+  pub word : ℕ
+
+abbrev encode-view : View EncodeOutcome words.Encoded
+encode-view = record { seen = λ o. encodedBy (o .answer) (o .word); back = λ m. record { answer = m .answer; word = m .word }; whole = λ o. refl }
+
+pub encode-once : (op a b low : ℕ) (o p : EncodeOutcome) → encode-view .seen o ≡ words.encode op a b low → encode-view .seen p ≡ words.encode op a b low → o ≡ p
+encode-once op a b low o p = once encode-view (words.encode op a b low) o p
+
+-- all that a write hands back or may change
+pub record WriteOutcome : Type 0 where
+  pub answer : ℕ
+  pub length : ℕ
+  pub out : List ℕ
+
+abbrev write-view : View WriteOutcome images.Written
+write-view =
+    record {
+      seen = λ o. writtenBy (o .answer) (o .length) (o .out);
+      back = λ m. record { answer = m .answer; length = m .length; out = m .out };
+      whole = λ o. refl;
+    }
+
+pub write-once : (words regs : List ℕ) (entry : ℕ) (out : List ℕ) (o p : WriteOutcome)
+    → write-view .seen o ≡ images.write words regs entry out
+    → write-view .seen p ≡ images.write words regs entry out
+    → o ≡ p
+write-once words regs entry out o p = once write-view (images.write words regs entry out) o p

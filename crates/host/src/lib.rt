@@ -1,0 +1,98 @@
+// The calls of a host program, which keeps one processor record and lends it to each.
+ghost use mathlib.Core.Path.{_≡_};
+ghost use Rattle.common.specs.Words.{decode, encode};
+ghost use Rattle.rules.specs.Step.{step};
+ghost use Rattle.rules.specs.Run.{run};
+ghost use Rattle.rules.specs.Images.{load, write};
+ghost use Rattle.machine.specs.Views.{stateOf};
+ghost use Rattle.images.specs.Promises.{lent};
+ghost use Rattle.host.specs.Promises.{loadedBy, steppedBy, ranBy, decodedBy, laidOut, encodedBy, writtenBy};
+use machine::Processor;
+
+// Loads an image over whatever the record held; a refused load leaves the blank record.
+#[no_mangle]
+pub extern "C" fn kl_load(
+    cpu: &mut Processor,
+    bytes: &[u8],
+    words: &mut [u32],
+    owners: &mut [u32],
+    jumpers: &mut [u64],
+    writers: &mut [u64],
+) -> u32
+    ensures { λ r. ⌜ loadedBy (now (cpu .exit)) r (now (words .exit)) (now (owners .exit)) (now (jumpers .exit)) (now (writers .exit)) ≡ load (now (bytes .entry)) (lent (now (words .entry)) (now (owners .entry)) (now (jumpers .entry)) (now (writers .entry))) ⌝ }
+{
+    let l = images::load(bytes, words, owners, jumpers, writers);
+    *cpu = l.cpu;
+    l.answer
+}
+
+// One step.
+#[no_mangle]
+pub extern "C" fn kl_step(
+    cpu: &mut Processor,
+    words: &mut [u32],
+    owners: &mut [u32],
+    jumpers: &mut [u64],
+    writers: &mut [u64],
+) -> u32
+    ensures { λ r. ⌜ steppedBy (now (cpu .exit)) r (now (words .exit)) (now (owners .exit)) (now (jumpers .exit)) (now (writers .exit)) ≡ step (stateOf (now (cpu .entry)) (now (words .entry)) (now (owners .entry)) (now (jumpers .entry)) (now (writers .entry))) ⌝ }
+{
+    let s = cpu.step(words, owners, jumpers, writers);
+    *cpu = s.cpu;
+    s.answer
+}
+
+// Steps until the first nonzero answer or until the budget is used; count is how many answered 0.
+#[no_mangle]
+pub extern "C" fn kl_run(
+    cpu: &mut Processor,
+    words: &mut [u32],
+    owners: &mut [u32],
+    jumpers: &mut [u64],
+    writers: &mut [u64],
+    budget: u32,
+    count: &mut u32,
+) -> u32
+    ensures { λ r. ⌜ ranBy (now (cpu .exit)) r (now (count .exit)) (now (words .exit)) (now (owners .exit)) (now (jumpers .exit)) (now (writers .exit)) ≡ run budget (stateOf (now (cpu .entry)) (now (words .entry)) (now (owners .entry)) (now (jumpers .entry)) (now (writers .entry))) ⌝ }
+{
+    let r = cpu.run(words, owners, jumpers, writers, budget);
+    *cpu = r.cpu;
+    *count = r.count;
+    r.answer
+}
+
+// Takes a word apart: opcode, field a, field b, low 16 bits.
+#[no_mangle]
+pub extern "C" fn kl_decode(word: u32, fields: &mut [u32; 4]) -> u32
+    ensures { λ r. ⌜ decodedBy r (now (fields .exit)) ≡ laidOut (decode word) ⌝ }
+{
+    let d = instructions::decode(word);
+    *fields = [d.op, d.a, d.b, d.low];
+    d.answer
+}
+
+// Puts a word together.
+#[no_mangle]
+pub extern "C" fn kl_encode(op: u32, a: u32, b: u32, low: u32, word: &mut u32) -> u32
+    ensures { λ r. ⌜ encodedBy r (now (word .exit)) ≡ encode op a b low ⌝ }
+{
+    let e = instructions::encode(op, a, b, low);
+    *word = e.word;
+    e.answer
+}
+
+// Writes an image to the front of a buffer; length is how many bytes it takes.
+#[no_mangle]
+pub extern "C" fn kl_write(
+    words: &[u32],
+    regs: &[u32; 16],
+    entry: u32,
+    out: &mut [u8],
+    length: &mut usize,
+) -> u32
+    ensures { λ r. ⌜ writtenBy r (now (length .exit)) (now (out .exit)) ≡ write (now (words .entry)) (now (regs .entry)) entry (now (out .entry)) ⌝ }
+{
+    let w = images::write(words, regs, entry, out);
+    *length = w.length;
+    w.answer
+}
