@@ -284,7 +284,7 @@ impl Processor {
             self.pc = m.pc;
             self.prev = m.owner;
             self.jumped = m.jumped;
-            count += 1;
+            count = count + 1;
         }
         self.ended(answers::DONE, count)
     }
