@@ -2,11 +2,11 @@
 use mathlib.Core.Path.{_≡_, refl, ap, _∙_, subst}
 use mathlib.Core.Bool.{true, false, cond, or-true}
 use mathlib.Core.List.{List}
-use Prim.Native.Nat.{ℕ, suc, _≤_, _<_}
+use Prim.Native.Nat.{ℕ, suc, _≤_}
 use native.Mathlib.Omega.{arith}
 use borrow.Author.Tests.{ltb-true, lt-ltb, le-ltb, eq-eqb, ne-eqb}
 use lib.Dec.{ltb, eqb}
-use lib.ListN.{getD, length, drop, replicate, length-replicate, getD-replicate, List·getD-append}
+use lib.ListN.{getD, length}
 use lib.Seq.{getD-set-same}
 use Rattle.common.specs.Answers as answer
 use Rattle.common.specs.Opcodes as is
@@ -20,11 +20,11 @@ use Rattle.rules.specs.State.{State, firstNumber, inMemory, hasOwner, ow
 use Rattle.rules.specs.Checks.{sameLengths, sized, numbered, seated, formed, badOwner, arrives, instructionAt, instructionVerdict, wordVerdict, setA, setJ, goodSets, setsWithin, returns, isolateVerdict, serviceVerdict, verdict}
 use Rattle.rules.specs.Step.{ranInstruction, mapFrom, below, joined, isolated, ranService, commit, Stepped, step}
 use Rattle.rules.specs.Run.{run}
-use Rattle.rules.specs.Images.{over, loaded}
+use Rattle.rules.specs.Images.{loaded}
 use Rattle.rules.specs.FormLaws.{is-sized, is-formed, outside}
 use Rattle.rules.specs.StepLaws.{answer-is, step-runs}
 use Rattle.rules.specs.Formed.{step-formed}
-use Rattle.rules.specs.TagLaws.{getD-map, member-insert-if}
+use Rattle.rules.specs.TagLaws.{filled, getD-map, member-insert-if}
 use Rattle.rules.specs.Lines.{Sum, At, Back, TagsAsLoaded, Call, Called, Full, table, All}
 
 -- ---- an instruction at pc runs
@@ -119,12 +119,7 @@ isolate-step s h v = step-runs s v ∙ simp (isolate-outside s (h .formed) (h .a
 pub loaded-tags : (words regs : List ℕ) (entry : ℕ) (old : State) → TagsAsLoaded (loaded words regs entry old)
 unfolding loaded serviceCount
 loaded-tags words regs entry old =
-    record { owners = filled 0 (old .owners); jumpers = filled services (old .jumpers); service = refl; next = refl }
-  where
-    filled : (v : ℕ) (old : List ℕ) (x : ℕ) → x < length words → getD (over (replicate (length words) v) old) x 0 ≡ v
-    filled v old x h =
-        let l : length (replicate (length words) v) ≡ length words = length-replicate (length words) v in
-        List·getD-append (replicate (length words) v) (drop (length (replicate (length words) v)) old) 0 x (omega arith) ∙ getD-replicate (length words) x v 0 h
+    record { owners = filled (length words) 0 (old .owners); jumpers = filled (length words) services (old .jumpers); service = refl; next = refl }
 
 -- the state at isolate, after the Jump
 abbrev at-isolate : State → State
