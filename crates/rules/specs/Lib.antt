@@ -27,7 +27,6 @@ pub mod Leaving
 pub mod Alike
 pub mod Lines
 pub mod LineProofs
-pub mod SheetImages
 -- ---- the agreement with the paper's abstract machine
 pub mod Match
 pub mod Keeps
