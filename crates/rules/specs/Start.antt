@@ -12,14 +12,14 @@ use Rattle.common.specs.Answers as answer
 use Rattle.common.specs.Services.{isolate, serviceCount, isService, serviceAt, isServiceNumber}
 use Rattle.common.specs.ServiceLaws.{service-range, no-service}
 use Rattle.common.specs.Tests.{both, bool-ext}
-use Rattle.common.specs.CheckLaws.{took}
+use Rattle.common.specs.CheckLaws.{needs, eqb-cond, cond-same}
 use Rattle.paper.specs.Abstract as paper
 use Rattle.paper.specs.CompLaws.{service-comps, at-service}
 use Rattle.rules.specs.Compartments.{member, empty, services, main}
 use Rattle.rules.specs.CompartmentLaws.{member-empty, member-services, member-main}
 use Rattle.rules.specs.State.{State, firstNumber, inMemory, hasOwner, ownerAt, jumpersAt, writersAt, owns, mayJump, mayStore}
 use Rattle.rules.specs.Checks.{sameLengths, seated, formed}
-use Rattle.rules.specs.Images.{field, fields, whole, sizeIn, registersIn, entryIn, entryAt, registersAt, entryVerdict, lastListed, registersVerdict, imageVerdict, wordsOf, regsOf, over, loaded, loadVerdict, load}
+use Rattle.rules.specs.Images.{fields, sizeIn, entryIn, entryVerdict, registersVerdict, imageVerdict, wordsOf, regsOf, over, loaded, loadVerdict, load}
 use Rattle.rules.specs.FormLaws.{Sized, same-lengths, sized-is, Numbered, numbered-is}
 use Rattle.rules.specs.TagLaws.{filled}
 use Rattle.rules.specs.Match.{Match, Inv}
@@ -47,27 +47,14 @@ module _ (bytes : List ℕ) (old : State) (ok : load bytes old .answer ≡ answe
   pub accepted : Accepted (wordsOf bytes) (entryIn bytes) old
   unfolding load loadVerdict imageVerdict registersVerdict entryVerdict
   accepted =
-      let a = took (sameLengths old) _ 26 ok in
-      let b = took (whole bytes 0 1) _ 19 (a .1) in
-      let c = took (leb 1 (sizeIn bytes) && leb (sizeIn bytes) 2048) _ 20 (b .1) in
-      let d = took (leb (sizeIn bytes) (length (old .words))) _ 27 (c .1) in
-      let e = took (whole bytes 4 (sizeIn bytes)) _ 19 (d .1) in
-      let f = took (whole bytes (registersAt bytes) 1) _ 19 (e .1) in
-      let g = took (leb (registersIn bytes) 16) _ 21 (f .1) in
-      let h = took (whole bytes (registersAt bytes + 4) (registersIn bytes)) _ 19 (g .1) in
-      let i = took (lastListed bytes) _ 22 (h .1) in
-      let j = took (whole bytes (entryAt bytes) 1) _ 19 (i .1) in
-      let k = took (eqb (field bytes (entryAt bytes)) 1) _ 23 (j .1) in
-      let l = took (whole bytes (entryAt bytes) 2) _ 19 (k .1) in
-      let m = took (ltb (entryIn bytes) (sizeIn bytes)) _ 24 (l .1) in
       let n : length (wordsOf bytes) ≡ sizeIn bytes = words-are bytes in
-      let sizes = both _ _ (c .0) in
-      let lengths = same-lengths old (a .0) in
+      let lengths = same-lengths old (needs (sameLengths old) (loadVerdict bytes old) (λ e. simp e) ok) in
+      let sizes = both _ _ (needs (leb 1 (sizeIn bytes) && leb (sizeIn bytes) 2048) (loadVerdict bytes old) (λ e. simp (e, eqb-cond, cond-same)) ok) in
       record {
         some = rw n (leb-true _ _ (sizes .0));
         most = rw n (leb-true _ _ (sizes .1));
-        entered = rw n (ltb-true _ _ (m .0));
-        lent = rw n (leb-true _ _ (d .0));
+        entered = rw n (ltb-true _ _ (needs (ltb (entryIn bytes) (sizeIn bytes)) (loadVerdict bytes old) (λ e. simp (e, eqb-cond, cond-same)) ok));
+        lent = rw n (leb-true _ _ (needs (leb (sizeIn bytes) (length (old .words))) (loadVerdict bytes old) (λ e. simp (e, eqb-cond, cond-same)) ok));
         owners = lengths .0;
         jumpers = lengths .1;
         writers = lengths .2;
