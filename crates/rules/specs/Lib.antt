@@ -8,10 +8,10 @@ pub mod Images
 -- ---- laws
 pub mod CompartmentLaws
 pub mod FormLaws
+pub mod Passed
 pub mod StepLaws
 pub mod TagLaws
 pub mod JoinLaws
-pub mod BelowLaws
 -- ---- theorems of the rules
 pub mod Meaning
 pub mod Stays
@@ -27,11 +27,10 @@ pub mod Leaving
 pub mod Alike
 pub mod Lines
 pub mod LineProofs
-pub mod SheetImages
 -- ---- the agreement with the paper's abstract machine
 pub mod Match
+pub mod Keeps
 pub mod Verdicts
-pub mod Passed
 pub mod Commits
 pub mod Isolate
 pub mod OneStep
