@@ -2,11 +2,11 @@
 use mathlib.Core.Bool.{Bool, _&&_, not}
 use mathlib.Core.List.{List}
 use Prim.Native.Nat.{ℕ, zero, suc, _+_, min, max}
-use lib.ListN.{length}
+use lib.ListN.{getD, length}
 use Rattle.common.specs.Instructions.{bit}
 use Rattle.common.specs.Services.{isolate, serviceCount}
-use Rattle.rules.specs.Compartments.{size}
-use Rattle.rules.specs.State.{State, inMemory, writersAt, owns, mayJump, mayStore}
+use Rattle.rules.specs.Compartments.{empty, size}
+use Rattle.rules.specs.State.{State, inMemory, owns, mayJump, mayStore}
 
 -- how many of the k addresses from x on pass the test
 unfoldable pub countFrom : (ℕ → Bool) → ℕ → ℕ → ℕ
@@ -33,11 +33,11 @@ jumpCount s c = addressCount s (s .jumpers) (mayJump s c)
 unfoldable pub storeCount : State → ℕ → ℕ
 storeCount s c = addressCount s (s .writers) (mayStore s c)
 
--- the most ones in W of the first k places
-unfoldable pub widestBelow : State → ℕ → ℕ
-widestBelow s zero = 0
-widestBelow s (suc k) = max (widestBelow s k) (size (writersAt s k))
+-- the most ones in any of the first k sets
+unfoldable pub mostOnes : List ℕ → ℕ → ℕ
+mostOnes sets zero = 0
+mostOnes sets (suc k) = max (mostOnes sets k) (size (getD sets k empty))
 
--- "the number of compartments that may write to the most widely writable word: the most ones in any W"
+-- "the number of compartments that may write to the most widely writable word: the most ones in any W", of a place below N
 unfoldable pub widest : State → ℕ
-widest s = widestBelow s (places s (s .writers))
+widest s = mostOnes (s .writers) (places s (s .writers))
