@@ -37,13 +37,12 @@ module _ (test : ℕ → Bool) where
   count-most zero = omega arith
   count-most (suc k) = let h = count-most k in let b = bit-most (test (0 + k)) in omega arith
 
--- two tests that agree at the places
-count-same : (t u : ℕ → Bool) (k : ℕ) → ((x : ℕ) → x < k → t x ≡ u x) → countFrom t 0 k ≡ countFrom u 0 k
+-- two tests that agree on the way
+pub count-same : (t u : ℕ → Bool) (x k : ℕ) → ((y : ℕ) → x ≤ y → y < x + k → t y ≡ u y) → countFrom t x k ≡ countFrom u x k
 unfolding countFrom
-count-same t u zero h = refl
-count-same t u (suc k) h =
-    let e : 0 + k ≡ k = zero-add k in
-    ap₂ (λ (m : ℕ) (b : Bool). m + bit b) (count-same t u k (λ x l. h x (omega arith))) (h (0 + k) (omega arith))
+count-same t u x zero h = refl
+count-same t u x (suc k) h =
+    ap₂ (λ (m : ℕ) (b : Bool). m + bit b) (count-same t u x k (λ y l m. h y l (omega arith))) (h (x + k) (omega arith) (omega arith))
 
 -- ---- the places of one list
 
@@ -56,15 +55,15 @@ placesWith sets n c = countFrom (λ x. member (getD sets x 0) c) 0 (min n (lengt
 module _ (s : State) (c : ℕ) where
   places-owned : placesOwned (s .owners) (s .cpu .n) c ≡ countFrom (owns s c) 0 (min (s .cpu .n) (length (s .owners)))
   unfolding owns hasOwner ownerAt inMemory
-  places-owned = count-same _ (owns s c) (min (s .cpu .n) (length (s .owners))) (λ x h. simp (lt-ltb x (s .cpu .n) (omega arith)))
+  places-owned = count-same _ (owns s c) 0 (min (s .cpu .n) (length (s .owners))) (λ x l h. simp (lt-ltb x (s .cpu .n) (omega arith)))
 
   places-jump : placesWith (s .jumpers) (s .cpu .n) c ≡ countFrom (mayJump s c) 0 (min (s .cpu .n) (length (s .jumpers)))
   unfolding mayJump jumpersAt inMemory
-  places-jump = count-same _ (mayJump s c) (min (s .cpu .n) (length (s .jumpers))) (λ x h. simp (lt-ltb x (s .cpu .n) (omega arith)))
+  places-jump = count-same _ (mayJump s c) 0 (min (s .cpu .n) (length (s .jumpers))) (λ x l h. simp (lt-ltb x (s .cpu .n) (omega arith)))
 
   places-store : placesWith (s .writers) (s .cpu .n) c ≡ countFrom (mayStore s c) 0 (min (s .cpu .n) (length (s .writers)))
   unfolding mayStore writersAt inMemory
-  places-store = count-same _ (mayStore s c) (min (s .cpu .n) (length (s .writers))) (λ x h. simp (lt-ltb x (s .cpu .n) (omega arith)))
+  places-store = count-same _ (mayStore s c) 0 (min (s .cpu .n) (length (s .writers))) (λ x l h. simp (lt-ltb x (s .cpu .n) (omega arith)))
 
 -- ---- the three services
 
