@@ -267,6 +267,40 @@ fn additions() {
     );
 }
 
+// Main and two children may write to the word at 16: main adds it, and each isolate has it in S'.
+fn three_writers() {
+    let words = [
+        constant(1, 16),
+        constant(4, ADD_STORE_TARGET),
+        jal(4),
+        constant(1, 18),
+        constant(2, 17),
+        constant(3, 21),
+        constant(4, ISOLATE),
+        jal(4),
+        constant(1, 24),
+        jal(4),
+        halt(),
+        0,
+        0,
+        0,
+        0,
+        0,
+        0, // the word
+        0, // the empty set
+        1, // the set of 11
+        11,
+        12,
+        1, // the set of 16
+        16,
+        17,
+        1, // the set of 12 and 13
+        12,
+        14,
+    ];
+    case(b"1: three may write to one word", &words);
+}
+
 // A Jal to a service from the last word, where all else would pass.
 fn from_last(s: &[u8], service: u32) {
     let words = [
@@ -359,6 +393,7 @@ fn main() {
     arrivals();
     isolates();
     additions();
+    three_writers();
     last_words();
     sixty_one_isolates();
     refusals();
