@@ -1,12 +1,8 @@
 // Images of every kind of answer, each built, run as the run program runs it, and printed under its name.
 use libc::STDOUT_FILENO;
-
-// Where the services sit.
-const ISOLATE: u32 = 4096;
-
-const ADD_JUMP_TARGET: u32 = 4097;
-
-const ADD_STORE_TARGET: u32 = 4098;
+use monitor::ADD_JUMP_TARGET;
+use monitor::ADD_STORE_TARGET;
+use monitor::ISOLATE;
 
 fn encoded(op: u32, a: u32, b: u32, low: u32) -> u32 {
     let e = instructions::encode(op, a, b, low);

@@ -10,6 +10,9 @@ ghost use Rattle.machine.specs.Views.{stateOf};
 ghost use Rattle.report.specs.CountLaws.{placesOwned, placesWith, outside, three};
 use compartments::Set;
 use machine::Processor;
+use monitor::ADD_JUMP_TARGET;
+use monitor::ADD_STORE_TARGET;
+use monitor::ISOLATE;
 
 // How many places are looked at.
 fn least(n: u32, length: usize) -> usize
@@ -71,7 +74,9 @@ fn service(n: u32, x: u32, has: bool) -> u32
 fn services(n: u32, isolate: bool, jump: bool, store: bool) -> u32
     ensures { λ r. ⌜ r ≡ three n isolate jump store ⌝ }
 {
-    service(n, 4096, isolate) + service(n, 4097, jump) + service(n, 4098, store)
+    service(n, ISOLATE, isolate)
+        + service(n, ADD_JUMP_TARGET, jump)
+        + service(n, ADD_STORE_TARGET, store)
 }
 
 // The addresses that a compartment owns, services counted.
