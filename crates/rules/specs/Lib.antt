@@ -5,6 +5,7 @@ pub mod Checks
 pub mod Step
 pub mod Run
 pub mod Images
+pub mod Counts
 -- ---- laws
 pub mod CompartmentLaws
 pub mod FormLaws
