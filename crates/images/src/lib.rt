@@ -83,10 +83,8 @@ pub fn load(
     let services = Set::of_services();
     let none = Set::none();
     let n = image.size as usize;
-    filling::fill_words(words, bytes, n);
-    filling::fill_owners(owners, n, MAIN);
-    filling::fill_sets(jumpers, n, services.0);
-    filling::fill_sets(writers, n, none.0);
+    filling::fill_words(words, owners, bytes, n, MAIN);
+    filling::fill_sets(jumpers, writers, n, services.0, none.0);
     let regs = image.regs;
     let cpu = fresh(image.size, regs, image.entry);
     Loaded {

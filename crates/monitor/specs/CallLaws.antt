@@ -4,7 +4,7 @@ use mathlib.Core.Bool.{Bool, true, false, cond, _&&_, _||_, not, or-false}
 use mathlib.Core.List.{List, []}
 use Prim.Native.Nat.{ℕ, _+_, _-_, _<_, _≤_}
 use native.Mathlib.Omega.{arith}
-use borrow.Author.Tests.{leb-true, eq-eqb, ne-eqb, not-true, not-false}
+use borrow.Author.Tests.{lt-ltb, leb-true, eq-eqb, ne-eqb, not-true, not-false}
 use lib.Dec.{ltb, leb, eqb}
 use lib.ListN.{getD}
 use Rattle.common.specs.Answers as answer
@@ -64,6 +64,17 @@ module _ (n : ℕ) (owners sets services : List ℕ) (c x : ℕ) (a : Bool) (own
   reached-by h set f b g =
       let e : owns (asked n owners sets services) c x ≡ false = same-owns (asked n owners sets services) (asked n owners [] []) c x refl refl ∙ sym own ∙ h in
       g ∙ ap (λ (k : ℕ). member k c) f ∙ simp e
+
+-- a word of which the owner is known, and its set
+module _ (n : ℕ) (owners sets services : List ℕ) (c x : ℕ) (h : x < n) where
+  pub own-word : getD owners x 0 ≡ c → reaches (asked n owners sets services) c x ≡ true
+  unfolding owns hasOwner ownerAt inMemory
+  own-word e = simp (lt-ltb x n h, eq-eqb (getD owners x 0) c e)
+
+  pub word-by-set : (getD owners x 0 ≡ c → ⊥) → (set : ℕ) → set ≡ getD sets x 0 → (b : Bool) → b ≡ member set c
+      → reaches (asked n owners sets services) c x ≡ b
+  unfolding owns hasOwner ownerAt inMemory mayJump jumpersAt
+  word-by-set e set f b g = simp (lt-ltb x n h, ne-eqb (getD owners x 0) c e, g, f)
 
 nobody-reaches : (n : ℕ) (owners : List ℕ) (x : ℕ) → jumpersAt (asked n owners [] []) x ≡ empty
 unfolding jumpersAt

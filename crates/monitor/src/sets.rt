@@ -2,7 +2,7 @@
 ghost use mathlib.Core.Path.{_≡_};
 ghost use mathlib.Core.Bool.{_&&_, not};
 ghost use mathlib.Core.List.{[]};
-ghost use Prim.Native.Nat.{_+_, _-_, _*_, _<_};
+ghost use Prim.Native.Nat.{_+_, _-_, _*_, _<_, min};
 ghost use Rattle.common.specs.Services.{isService};
 ghost use Rattle.common.specs.AddressSets.{setAt, goodSet, ordered, inPair, inSet, allFrom, within};
 ghost use Rattle.rules.specs.State.{owns, jumpersAt};
@@ -147,6 +147,24 @@ fn reaches(n: u32, caller: u32, owners: &[u32], sets: &[u64], services: &[u64], 
     Set(numbers_at(n, sets, services, x)).contains(caller)
 }
 
+// Where a walk over a memory ends: at past, at n, or at the end of what is lent.
+pub fn clipped(past: u32, n: u32, len: usize) -> usize
+    ensures { λ r. ⌜ r ≡ min (min past n) len ⌝ }
+{
+    let a = past as usize;
+    let b = n as usize;
+    if len < a {
+        if len < b {
+            return len;
+        }
+        return b;
+    }
+    if b < a {
+        return b;
+    }
+    a
+}
+
 // Whether the caller reaches every address of the pair. The first that it does not ends the walk, and nobody reaches an address that is
 // neither a word nor a service: no walk is longer than memory.
 fn reaches_all(
@@ -159,10 +177,21 @@ fn reaches_all(
 ) -> bool
     ensures { λ r. ⌜ r ≡ allFrom (reaches (asked n (now (owners .entry)) (now (sets .entry)) (now (services .entry))) caller) (pair .first) (pair .past - pair .first) ⌝ }
 {
-    let mut x = pair.first;
-    let past = pair.past;
+    let past = pair.past as usize;
+    let end = clipped(pair.past, n, owners.len());
+    let mut x = pair.first as usize;
+    // the words, most of which are the caller's own
+    while x < end {
+        if owners[x] != caller {
+            if !Set(set_at(sets, x as u32)).contains(caller) {
+                return false;
+            }
+        }
+        x += 1;
+    }
+    // the rest
     while x < past {
-        if !reaches(n, caller, owners, sets, services, x) {
+        if !reaches(n, caller, owners, sets, services, x as u32) {
             return false;
         }
         x += 1;

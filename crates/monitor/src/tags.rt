@@ -1,7 +1,6 @@
 // The tags at the addresses of a set, written: owners, and sets of compartment numbers.
 ghost use mathlib.Core.Path.{_≡_};
 ghost use mathlib.Core.List.{[], _∷_};
-ghost use Prim.Native.Nat.{min};
 ghost use Rattle.common.specs.AddressSets.{setAt};
 ghost use Rattle.rules.specs.Step.{owned, joined, joinedServices, joinAt};
 ghost use Rattle.monitor.specs.SetLaws.{pairOf, Counted};
@@ -10,29 +9,12 @@ use super::ADD_JUMP_TARGET;
 use super::ADD_STORE_TARGET;
 use super::ISOLATE;
 use super::sets::Pair;
+use super::sets::clipped;
 use super::sets::has;
 use super::sets::pair_at;
 use compartments::Set;
 use memory::set_at;
 use memory::word_at;
-
-// Where a walk over a memory ends: at past, at n, or at the end of what is lent.
-fn clipped(past: u32, n: u32, len: usize) -> usize
-    ensures { λ r. ⌜ r ≡ min (min past n) len ⌝ }
-{
-    let a = past as usize;
-    let b = n as usize;
-    if len < a {
-        if len < b {
-            return len;
-        }
-        return b;
-    }
-    if b < a {
-        return b;
-    }
-    a
-}
 
 // The words of the pair get an owner.
 fn own_pair(owners: &mut [u32], n: u32, pair: Pair, number: u32)

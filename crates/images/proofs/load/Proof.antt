@@ -26,17 +26,12 @@ cast-n : tie.Need-cast-n
 cast-n c = search needs
 
 fill-words-requires : tie.Need-fill-words-requires
-fill-words-requires c κs = let g = c .before .before .before .before .before .before .before .before .before .before .before .before .args in
-    let r = ready (g .bytes .now) (g .words .now) (g .owners .now) (g .jumpers .now) (g .writers .now) _ (c .before .before .before .before .before .before .same-lengths .ensures) (c .before .before .before .before .before .if1 .left) _ (c .before .before .before .before .read .ensures) in (r .in-words, r .in-bytes)
-
-fill-owners-requires : tie.Need-fill-owners-requires
-fill-owners-requires c κs = let g = c .before .before .before .before .before .before .before .before .before .before .before .before .before .before .before .before .args in ready (g .bytes .now) (g .words .now) (g .owners .now) (g .jumpers .now) (g .writers .now) _ (c .before .before .before .before .before .before .before .before .before .before .same-lengths .ensures) (c .before .before .before .before .before .before .before .before .before .if1 .left) _ (c .before .before .before .before .before .before .before .before .read .ensures) .in-owners
+fill-words-requires c κs = let g = c .before .before .before .before .before .before .before .before .before .before .before .before .before .args in
+    let r = ready (g .bytes .now) (g .words .now) (g .owners .now) (g .jumpers .now) (g .writers .now) _ (c .before .before .before .before .before .before .before .same-lengths .ensures) (c .before .before .before .before .before .before .if1 .left) _ (c .before .before .before .before .before .read .ensures) in (r .in-words, r .in-owners, r .in-bytes)
 
 fill-sets-requires : tie.Need-fill-sets-requires
-fill-sets-requires c κs = let g = c .before .before .before .before .before .before .before .before .before .before .before .before .before .before .before .before .before .before .before .before .args in ready (g .bytes .now) (g .words .now) (g .owners .now) (g .jumpers .now) (g .writers .now) _ (c .before .before .before .before .before .before .before .before .before .before .before .before .before .before .same-lengths .ensures) (c .before .before .before .before .before .before .before .before .before .before .before .before .before .if1 .left) _ (c .before .before .before .before .before .before .before .before .before .before .before .before .read .ensures) .in-jumpers
-
-fill-sets-requires-2 : tie.Need-fill-sets-requires-2
-fill-sets-requires-2 c κs = let g = c .before .before .before .before .before .before .before .before .before .before .before .before .before .before .before .before .before .before .before .before .before .before .before .before .args in ready (g .bytes .now) (g .words .now) (g .owners .now) (g .jumpers .now) (g .writers .now) _ (c .before .before .before .before .before .before .before .before .before .before .before .before .before .before .before .before .before .before .same-lengths .ensures) (c .before .before .before .before .before .before .before .before .before .before .before .before .before .before .before .before .before .if1 .left) _ (c .before .before .before .before .before .before .before .before .before .before .before .before .before .before .before .before .read .ensures) .in-writers
+fill-sets-requires c κs = let g = c .before .before .before .before .before .before .before .before .before .before .before .before .before .before .before .before .before .before .before .before .args in
+    let r = ready (g .bytes .now) (g .words .now) (g .owners .now) (g .jumpers .now) (g .writers .now) _ (c .before .before .before .before .before .before .before .before .before .before .before .before .before .before .same-lengths .ensures) (c .before .before .before .before .before .before .before .before .before .before .before .before .before .if1 .left) _ (c .before .before .before .before .before .before .before .before .before .before .before .before .read .ensures) in (r .in-jumpers, r .in-writers)
 
 fresh-requires-2 : tie.Need-fresh-requires-2
 fresh-requires-2 c κs = search needs
@@ -54,8 +49,10 @@ same-length-4 : tie.Need-same-length-4
 same-length-4 c = search needs
 
 returns-2 : tie.Need-returns-2
-returns-2 c = let g = c .before .before .before .before .before .before .before .before .before .before .before .before .before .before .before .before .before .before .before .before .before .before .before .before .before .before .before .before .before .args in
-    loads (g .bytes .now) (g .words .now) (g .owners .now) (g .jumpers .now) (g .writers .now) _ (c .before .before .before .before .before .before .before .before .before .before .before .before .before .before .before .before .before .before .before .before .before .before .before .same-lengths .ensures) (c .before .before .before .before .before .before .before .before .before .before .before .before .before .before .before .before .before .before .before .before .before .before .if1 .left) _ (c .before .before .before .before .before .before .before .before .before .before .before .before .before .before .before .before .before .before .before .before .before .read .ensures) _ _ _ _ _ _ (c .before .before .before .before .before .before .before .before .before .before .before .before .before .before .before .before .fill-words .ensures) (c .before .before .before .before .before .before .before .before .before .before .before .before .fill-owners .ensures) (c .before .before .before .before .before .before .before .before .before .before .before .before .before .before .before .before .before .before .before .before .of-services .ensures) (c .before .before .before .before .before .before .before .before .fill-sets .ensures) (c .before .before .before .before .before .before .before .before .before .before .before .before .before .before .before .before .before .before .before .none .ensures) (c .before .before .before .before .fill-sets2 .ensures) _ (c .fresh2 .ensures)
+returns-2 c = let g = c .before .before .before .before .before .before .before .before .before .before .before .before .before .before .before .before .before .before .before .before .before .before .before .before .before .before .before .args in
+    let w = c .before .before .before .before .before .before .before .before .before .before .before .before .before .fill-words .ensures in
+    let s = c .before .before .before .before .before .before .fill-sets .ensures in
+    loads (g .bytes .now) (g .words .now) (g .owners .now) (g .jumpers .now) (g .writers .now) _ (c .before .before .before .before .before .before .before .before .before .before .before .before .before .before .before .before .before .before .before .before .before .same-lengths .ensures) (c .before .before .before .before .before .before .before .before .before .before .before .before .before .before .before .before .before .before .before .before .if1 .left) _ (c .before .before .before .before .before .before .before .before .before .before .before .before .before .before .before .before .before .before .before .read .ensures) _ _ _ _ _ _ (w .0) (w .1) (c .before .before .before .before .before .before .before .before .before .before .before .before .before .before .before .before .before .before .of-services .ensures) (s .0) (c .before .before .before .before .before .before .before .before .before .before .before .before .before .before .before .before .before .none .ensures) (s .1) _ (c .fresh2 .ensures)
 
 pub load-spec : {M : Type 1} → statement M
 load-spec =
@@ -69,9 +66,7 @@ load-spec =
     none-requires
     cast-n
     fill-words-requires
-    fill-owners-requires
     fill-sets-requires
-    fill-sets-requires-2
     fresh-requires-2
     same-length
     same-length-2
