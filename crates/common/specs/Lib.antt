@@ -11,3 +11,4 @@ pub mod ServiceLaws
 pub mod AddressSetLaws
 pub mod InstructionLaws
 pub mod CheckLaws
+pub mod InstructionExamples

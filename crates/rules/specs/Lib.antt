@@ -15,6 +15,7 @@ pub mod BelowLaws
 -- ---- theorems of the rules
 pub mod Meaning
 pub mod Stays
+pub mod Refusals
 pub mod Additive
 pub mod Cascades
 pub mod Conditions
