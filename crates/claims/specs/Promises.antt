@@ -31,6 +31,29 @@ use Rattle.rules.specs.Additive as additive
 use Rattle.rules.specs.Grows as grows
 use Rattle.rules.specs.Rest as rest
 use Rattle.rules.specs.Alike as alike
+use Rattle.rules.specs.Compartments.{member, insert, empty, services, size, lowest}
+use Rattle.compartments.specs.declared.Set.{Set}
+use Rattle.compartments.specs.Promises as sets
+use Rattle.instructions.specs.declared.Decoded.{Decoded}
+use Rattle.instructions.specs.declared.Encoded.{Encoded}
+use Rattle.instructions.specs.Promises as instructions
+use Rattle.memory.specs.Promises as memory
+use Rattle.moves.specs.declared.Move.{Move}
+use Rattle.moves.specs.Moves.{moveOf}
+use Rattle.moves.specs.Promises as moves
+use Rattle.monitor.specs.declared.Isolated.{Isolated}
+use Rattle.monitor.specs.Outcomes.{isolatingOf, isolating, addingOf, adding}
+use Rattle.monitor.specs.Promises as monitor
+use Rattle.machine.specs.declared.Processor.{Processor}
+use Rattle.machine.specs.declared.Stepped.{Stepped}
+use Rattle.machine.specs.declared.Ran as code-run
+use Rattle.machine.specs.Views.{stateOf, steppedOf, ranOf}
+use Rattle.machine.specs.Promises as machine
+use Rattle.machine.specs.Promises.{Left}
+use Rattle.images.specs.Promises as images
+use Rattle.images.specs.Promises.{lent, loadedOf, writtenOf}
+use Rattle.host.specs.Promises as host
+use Rattle.host.specs.Promises.{loadedBy, steppedBy, ranBy, DecodeOutcome, encodedBy, writtenBy}
 
 -- ==== "The P lines are proved of the rules as a single table under one claim"
 
@@ -197,3 +220,153 @@ next-never-falls = grows.run-next-never-falls
 
 pub next-grows : (s : State) → (step s .state .cpu .next ≡ suc (s .cpu .next)) ↔ ((step s .answer ≡ 0) × (s .cpu .pc ≡ 4096))
 next-grows = grows.next-grows-iff
+
+-- ==== "the memories lent may be longer, and no step reads or changes a place from N on"
+
+-- one memory, before and after: it is as long as it was, and the same from place n on
+abbrev Beyond : ℕ → List ℕ → List ℕ → Type 0
+Beyond n before after = (drop n after ≡ drop n before) × (length after ≡ length before)
+
+-- changed: any state, whatever its form and the answer; any number of steps
+pub nothing-changed : (budget : ℕ) (s : State)
+    → Beyond (s .cpu .n) (s .words) (run budget s .state .words) × Beyond (s .cpu .n) (s .owners) (run budget s .state .owners)
+    × Beyond (s .cpu .n) (s .jumpers) (run budget s .state .jumpers) × Beyond (s .cpu .n) (s .writers) (run budget s .state .writers)
+nothing-changed budget s =
+    let k = rest.run-keeps-rest budget s in (
+      (k .words .rest, k .words .same-length),
+      (k .owners .rest, k .owners .same-length),
+      (k .jumpers .rest, k .jumpers .same-length),
+      (k .writers .rest, k .writers .same-length),
+    )
+
+-- one record over two sets of memories that agree below N, each of one length of its own from N on
+abbrev SameBelow : State → State → Type 0
+SameBelow s t =
+    (s .cpu ≡ t .cpu) × (take (s .cpu .n) (s .words) ≡ take (s .cpu .n) (t .words)) × (take (s .cpu .n) (s .owners) ≡ take (s .cpu .n) (t .owners))
+    × (take (s .cpu .n) (s .jumpers) ≡ take (s .cpu .n) (t .jumpers)) × (take (s .cpu .n) (s .writers) ≡ take (s .cpu .n) (t .writers))
+
+abbrev OneLength : State → Type 0
+OneLength s =
+    (length (s .owners) ≡ length (s .words)) × (length (s .jumpers) ≡ length (s .words)) × (length (s .writers) ≡ length (s .words))
+    × (s .cpu .n ≤ length (s .words))
+
+-- read: they give the same answer and count, and agree below N again
+pub nothing-read : (budget : ℕ) (s t : State) → OneLength s → OneLength t → SameBelow s t
+    → (run budget s .answer ≡ run budget t .answer) × (run budget s .count ≡ run budget t .count) × SameBelow (run budget s .state) (run budget t .state)
+nothing-read budget s t ls lt e =
+    let r =
+    alike.run-alike budget s t (record { owners = ls .0; jumpers = ls .1; writers = ls .2; enough = ls .3 })
+    (record { owners = lt .0; jumpers = lt .1; writers = lt .2; enough = lt .3 })
+    (record { cpu = e .0; words = e .1; owners = e .2; jumpers = e .3; writers = e .4 }) in
+    (r .answer, r .count, (r .state .cpu, r .state .words, r .state .owners, r .state .jumpers, r .state .writers))
+
+-- ==== "Two outcomes allowed by one promise are proved equal": every public call. An outcome is what the call hands back
+-- and every memory that it may change, at exit; the two premises are the call's contract, twice.
+
+-- compartments::Set: none, of_services, contains, insert, count, lowest
+pub none-once : (r q : Set) → r .0 ≡ empty → q .0 ≡ empty → r ≡ q
+none-once = sets.none-once
+
+pub of-services-once : (r q : Set) → r .0 ≡ services → q .0 ≡ services → r ≡ q
+of-services-once = sets.of-services-once
+
+pub contains-once : (self : Set) (number : ℕ) (r q : Bool) → r ≡ member (self .0) number → q ≡ member (self .0) number → r ≡ q
+contains-once = sets.contains-once
+
+pub insert-once : (self : Set) (number : ℕ) (r q : Set) → r .0 ≡ insert (self .0) number → q .0 ≡ insert (self .0) number → r ≡ q
+insert-once = sets.insert-once
+
+pub count-once : (self : Set) (r q : ℕ) → r ≡ size (self .0) → q ≡ size (self .0) → r ≡ q
+count-once = sets.count-once
+
+pub lowest-once : (self : Set) (r q : ℕ) → r ≡ lowest (self .0) → q ≡ lowest (self .0) → r ≡ q
+lowest-once = sets.lowest-once
+
+-- instructions: decode, encode
+pub decode-once : (word : ℕ) (r q : Decoded) → instructions.decoded r ≡ decode word → instructions.decoded q ≡ decode word → r ≡ q
+decode-once = instructions.decode-once
+
+pub encode-once : (op a b low : ℕ) (r q : Encoded) → instructions.encoded r ≡ encode op a b low → instructions.encoded q ≡ encode op a b low → r ≡ q
+encode-once = instructions.encode-once
+
+-- memory: word_at, set_at
+pub read-once : (places : List ℕ) (at r q : ℕ) → r ≡ getD places at 0 → q ≡ getD places at 0 → r ≡ q
+read-once = memory.read-once
+
+-- moves: decide
+pub decide-once : (regs : List ℕ) (pc prev : ℕ) (jumped : Bool) (next n : ℕ) (words owners jumpers writers : List ℕ) (r q : Move)
+    → r ≡ moveOf regs pc prev jumped next n words owners jumpers writers → q ≡ moveOf regs pc prev jumped next n words owners jumpers writers → r ≡ q
+decide-once = moves.decide-once
+
+-- monitor: isolate, with the owners, jumpers and writers; add_target, with the sets
+pub isolate-once : (s : State) (o p : Isolated × List ℕ × List ℕ × List ℕ) → isolatingOf (o .0) (o .1) (o .2) (o .3) ≡ isolating s
+    → isolatingOf (p .0) (p .1) (p .2) (p .3) ≡ isolating s → o ≡ p
+isolate-once = monitor.isolate-once
+
+pub add-target-once : (s : State) (sets : List ℕ) (o p : ℕ × List ℕ) → addingOf (o .0) (o .1) ≡ adding s sets → addingOf (p .0) (p .1) ≡ adding s sets → o ≡ p
+add-target-once = monitor.add-target-once
+
+-- machine: Processor::step, Processor::run, with the four memories
+pub step-once : (self : Processor) (words owners jumpers writers : List ℕ) (o p : Left Stepped)
+    → steppedOf (o .result) (o .words) (o .owners) (o .jumpers) (o .writers) ≡ step (stateOf self words owners jumpers writers)
+    → steppedOf (p .result) (p .words) (p .owners) (p .jumpers) (p .writers) ≡ step (stateOf self words owners jumpers writers) → o ≡ p
+step-once = machine.step-once
+
+pub run-once : (self : Processor) (words owners jumpers writers : List ℕ) (budget : ℕ) (o p : Left code-run.Ran)
+    → ranOf (o .result) (o .words) (o .owners) (o .jumpers) (o .writers) ≡ run budget (stateOf self words owners jumpers writers)
+    → ranOf (p .result) (p .words) (p .owners) (p .jumpers) (p .writers) ≡ run budget (stateOf self words owners jumpers writers) → o ≡ p
+run-once = machine.run-once
+
+-- images: load, with the four memories; write, with the buffer
+pub load-once : (bytes words owners jumpers writers : List ℕ) (o p : images.LoadOutcome)
+    → loadedOf (o .result) (o .words) (o .owners) (o .jumpers) (o .writers) ≡ load bytes (lent words owners jumpers writers)
+    → loadedOf (p .result) (p .words) (p .owners) (p .jumpers) (p .writers) ≡ load bytes (lent words owners jumpers writers) → o ≡ p
+load-once = images.load-once
+
+pub write-once : (words regs : List ℕ) (entry : ℕ) (out : List ℕ) (o p : images.WriteOutcome)
+    → writtenOf (o .result) (o .out) ≡ write words regs entry out → writtenOf (p .result) (p .out) ≡ write words regs entry out → o ≡ p
+write-once = images.write-once
+
+-- host: kl_load, kl_step, kl_run, with the record and the four memories, and for kl_run the count
+pub kl-load-once : (bytes words owners jumpers writers : List ℕ) (o p : host.Outcome)
+    → loadedBy (o .session .cpu) (o .answer) (o .session .words) (o .session .owners) (o .session .jumpers) (o .session .writers) ≡ load bytes (lent words owners jumpers writers)
+    → loadedBy (p .session .cpu) (p .answer) (p .session .words) (p .session .owners) (p .session .jumpers) (p .session .writers) ≡ load bytes (lent words owners jumpers writers)
+    → o ≡ p
+kl-load-once = host.load-once
+
+pub kl-step-once : (cpu : Processor) (words owners jumpers writers : List ℕ) (o p : host.Outcome)
+    → steppedBy (o .session .cpu) (o .answer) (o .session .words) (o .session .owners) (o .session .jumpers) (o .session .writers) ≡ step (stateOf cpu words owners jumpers writers)
+    → steppedBy (p .session .cpu) (p .answer) (p .session .words) (p .session .owners) (p .session .jumpers) (p .session .writers) ≡ step (stateOf cpu words owners jumpers writers)
+    → o ≡ p
+kl-step-once = host.step-once
+
+pub kl-run-once : (cpu : Processor) (words owners jumpers writers : List ℕ) (budget : ℕ) (o p : host.RunOutcome)
+    → ranBy (o .session .cpu) (o .answer) (o .count) (o .session .words) (o .session .owners) (o .session .jumpers) (o .session .writers) ≡ run budget (stateOf cpu words owners jumpers writers)
+    → ranBy (p .session .cpu) (p .answer) (p .count) (p .session .words) (p .session .owners) (p .session .jumpers) (p .session .writers) ≡ run budget (stateOf cpu words owners jumpers writers)
+    → o ≡ p
+kl-run-once = host.run-once
+
+-- host: kl_decode, with the four fields; kl_encode, with the word; kl_write, with the length and the buffer
+pub kl-decode-once : (word : ℕ) (o p : DecodeOutcome)
+    → o ≡ record { answer = decode word .answer; fields = decode word .op ∷ decode word .a ∷ decode word .b ∷ decode word .low ∷ [] }
+    → p ≡ record { answer = decode word .answer; fields = decode word .op ∷ decode word .a ∷ decode word .b ∷ decode word .low ∷ [] } → o ≡ p
+kl-decode-once = host.decode-once
+
+pub kl-encode-once : (op a b low : ℕ) (o p : host.EncodeOutcome) → encodedBy (o .answer) (o .word) ≡ encode op a b low → encodedBy (p .answer) (p .word) ≡ encode op a b low → o ≡ p
+kl-encode-once = host.encode-once
+
+pub kl-write-once : (words regs : List ℕ) (entry : ℕ) (out : List ℕ) (o p : host.WriteOutcome)
+    → writtenBy (o .answer) (o .length) (o .out) ≡ write words regs entry out → writtenBy (p .answer) (p .length) (p .out) ≡ write words regs entry out → o ≡ p
+kl-write-once = host.write-once
+
+-- ==== "Four idle programs have to be turned away". None meets its contract, since a contract has one outcome (`step-once`,
+-- `run-once`, `load-once`) and that outcome is said here:
+--
+-- 1. One that stops or refuses always: `agree` in Demands gives the answers of the abstract machine, which goes on wherever
+--    the paper's rules do; `step-done` and `load-done` give 0 wherever no condition holds.
+-- 2. One that answers the same always: `step-by-contract` in Demands, with `step-number` two ways; the lines `p-lines` have
+--    steps that answer 0, 2, 12 and 13.
+-- 3. One that moves nothing: `step-by-contract`, whose state is the rules'; rows 5 to 8 of `p-lines` have a register, pc and
+--    next that move.
+-- 4. A run that steps once and then only counts, or makes its count up: `run-by-contract` in Demands, with `counted` and
+--    `used` above: the count is that of the steps that answered 0, and the state is that after them.
