@@ -1,5 +1,5 @@
 -- The demands once more, of whatever outcomes the contracts of the code's load, run, step, write, decode and encode allow: the theorems are about the definitions that the contracts cite.
-use mathlib.Core.Path.{_≡_, refl, sym, ap, _∙_, subst}
+use mathlib.Core.Path.{_≡_, sym, ap, _∙_, subst}
 use mathlib.Core.Bool.{false, true, _||_}
 use mathlib.Core.List.{List, [], _∷_, _++_}
 use Prim.Native.Nat.{ℕ, suc, _^_, _≤_, _<_}

@@ -1,17 +1,16 @@
 -- The three demands of the handover note, in its order: each claim with all its quantifiers, proved by citation.
-use mathlib.Core.Path.{_≡_, refl, sym, ap, _∙_, subst}
+use mathlib.Core.Path.{_≡_, refl, sym, ap, subst}
 use mathlib.Core.Bool.{Bool, true, false, _&&_, _||_}
 use mathlib.Core.List.{List, [], _∷_, _++_}
-use mathlib.Core.Logic.{_↔_, _⊎_, inl, inr, ⊎-elim}
+use mathlib.Core.Logic.{_↔_, _⊎_, inl, inr}
 use Prim.Native.Nat.{ℕ, suc, _^_, _≤_, _<_}
 use native.Mathlib.Omega.{arith}
 use native.Mathlib.Decide.{ℕ-discrete}
 use borrow.Author.Tests.{leb-true}
 use lib.Dec.{leb, eqb}
 use lib.ListN.{getD, length, take, drop}
-use Rattle.common.specs.Answers as answer
 use Rattle.common.specs.Opcodes as is
-use Rattle.common.specs.Words.{instruction, none, allowed, opOf, aOf, bOf, lowOf, decode, encode}
+use Rattle.common.specs.Words.{allowed, opOf, aOf, bOf, lowOf, decode, encode}
 use Rattle.common.specs.WordLaws as words
 use Rattle.common.specs.Instructions.{reg}
 use Rattle.common.specs.Services.{isService}
