@@ -13,3 +13,4 @@ pub mod WordLaws
 pub mod InstructionLaws
 pub mod ServiceLaws
 pub mod AddressSetLaws
+pub mod InstructionExamples

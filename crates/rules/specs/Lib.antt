@@ -16,6 +16,7 @@ pub mod JoinLaws
 -- ---- theorems of the rules
 pub mod Meaning
 pub mod Stays
+pub mod Refusals
 pub mod Additive
 pub mod Cascades
 pub mod Conditions

@@ -1,17 +1,17 @@
--- What the tests on sets of pairs mean: membership is the union, `within` is "each address passes", no pair is no address.
+-- What the tests on sets of pairs mean: membership is the union, `within` is "each address passes", no pair is no address, and what 8 asks for.
 use mathlib.Core.Path.{_≡_, refl, subst}
-use mathlib.Core.Bool.{Bool, true, false, or-true}
+use mathlib.Core.Bool.{Bool, true, false, _&&_, or-true}
 use mathlib.Core.List.{List, [], _∷_}
 use mathlib.Core.Logic.{_↔_}
 use Prim.Native.Nat.{ℕ, zero, suc, _+_, _-_, _*_, _≤_, _<_}
 use native.Mathlib.Omega.{arith}
 use native.Mathlib.Decide.{ℕ-discrete}
-use borrow.Author.Tests.{ltb-true, le-leb, lt-ltb}
-use lib.Dec.{ltb}
+use borrow.Author.Tests.{ltb-true, leb-true, le-leb, lt-ltb}
+use lib.Dec.{ltb, leb}
 use lib.ListN.{getD}
 use Rattle.common.specs.Tests.{both, clash}
 use Rattle.common.specs.AddressSetLaws.{in-pair, within-at}
-use Rattle.common.specs.AddressSets.{Pair, pairsAt, setAt, ordered, isEmpty, inSet, allFrom, within}
+use Rattle.common.specs.AddressSets.{Pair, pairsAt, setAt, inside, ordered, goodSet, isEmpty, inSet, allFrom, within}
 
 -- ---- one pair, and the pairs after it
 
@@ -94,4 +94,35 @@ empty-iff (p ∷ ps) o = (
   λ h. clash h refl,
   λ h. let u : p .first < p .past = ltb-true _ _ (both (ordered ps) (ltb (p .first) (p .past)) o .1) in
       clash (in-first p ps (p .first) (omega arith) u) (h (p .first)),
+)
+
+-- ---- good
+
+ordered-at : (words : List ℕ) (p k : ℕ) → ordered (pairsAt words p k) ≡ true → (i : ℕ) → i < k → getD words (p + 2 * i) 0 < getD words (p + 2 * i + 1) 0
+unfolding ordered pairsAt
+ordered-at words p zero h i l = absurd (omega arith)
+ordered-at words p (suc k) h i l = go (ℕ-discrete i k) (both (ordered (pairsAt words p k)) _ h) (ordered-at words p k)
+  where
+    go : Dec (i ≡ k) → (ordered (pairsAt words p k) ≡ true) × (ltb (getD words (p + 2 * k) 0) (getD words (p + 2 * k + 1) 0) ≡ true)
+        → (ordered (pairsAt words p k) ≡ true → (j : ℕ) → j < k → getD words (p + 2 * j) 0 < getD words (p + 2 * j + 1) 0)
+        → getD words (p + 2 * i) 0 < getD words (p + 2 * i + 1) 0
+    go (yes e) w ih = rw e (ltb-true _ _ (w .1))
+    go (no e) w ih = ih (w .0) i (omega arith)
+
+at-ordered : (words : List ℕ) (p k : ℕ) → ((i : ℕ) → i < k → getD words (p + 2 * i) 0 < getD words (p + 2 * i + 1) 0) → ordered (pairsAt words p k) ≡ true
+unfolding ordered pairsAt
+at-ordered words p zero h = refl
+at-ordered words p (suc k) h = simp (at-ordered words p k (λ i l. h i (omega arith)), lt-ltb _ _ (h k (omega arith)))
+
+-- not 8: the pointer, the count and every pair are inside the n words, and each pair has first < past
+pub good-set-iff : (words : List ℕ) (n q : ℕ)
+    → (goodSet words n q ≡ true)
+    ↔ ((q < n) × (q + 1 + 2 * getD words q 0 ≤ n)
+    × ((i : ℕ) → i < getD words q 0 → getD words (q + 1 + 2 * i) 0 < getD words (q + 1 + 2 * i + 1) 0))
+unfolding goodSet inside setAt
+good-set-iff words n q = (
+  λ h. let a = both (ltb q n && leb (q + 1 + 2 * getD words q 0) n) _ h in
+      let b = both (ltb q n) _ (a .0) in
+      (ltb-true _ _ (b .0), leb-true _ _ (b .1), ordered-at words (q + 1) (getD words q 0) (a .1)),
+  λ h. simp (lt-ltb _ _ (h .0), le-leb _ _ (h .1), at-ordered words (q + 1) (getD words q 0) (h .2)),
 )
