@@ -22,7 +22,7 @@ module _ (ws : List ℕ) (n : ℕ) where
       let c : pairsAt (take n ws) p k ≡ pairsAt ws p k = pairs-take p k (omega arith) in
       simp (a, b, c)
 
-  pub inside-take : (q : ℕ) → inside (take n ws) n q ≡ inside ws n q
+  inside-take : (q : ℕ) → inside (take n ws) n q ≡ inside ws n q
   unfolding inside
   inside-take q = go (ltb q n) refl
     where
@@ -30,7 +30,7 @@ module _ (ws : List ℕ) (n : ℕ) where
       go true e = simp (getD-take n ws q 0 (ltb-true q n e))
       go false e = simp e
 
-  pub set-take : (q : ℕ) → inside ws n q ≡ true → setAt (take n ws) q ≡ setAt ws q
+  set-take : (q : ℕ) → inside ws n q ≡ true → setAt (take n ws) q ≡ setAt ws q
   unfolding inside setAt
   set-take q h =
       let t = both (ltb q n) (leb (q + 1 + 2 * getD ws q 0) n) h in
@@ -46,6 +46,7 @@ module _ (ws : List ℕ) (n : ℕ) where
       go true e = simp (inside-take q, set-take q e)
       go false e = simp (inside-take q, e)
 
+  -- a set that passes 8 is read below n alone
   pub good-set-take : (q : ℕ) → goodSet ws n q ≡ true → setAt (take n ws) q ≡ setAt ws q
   unfolding goodSet
   good-set-take q h = set-take q (both (inside ws n q) (ordered (setAt ws q)) h .0)
@@ -61,6 +62,9 @@ all-at t (suc k) x y h l u = go (ℕ-discrete x y) (both (t x) (allFrom t (suc x
     go (yes e) w ih = subst (λ (z : ℕ). t z ≡ true) e (w .0)
     go (no e) w ih = ih (w .1) (omega arith) (omega arith)
 
+pub in-pair : (p : Pair) (x : ℕ) → inPair p x ≡ true → (p .first ≤ x) × (x < p .past)
+in-pair p x h = let v = both (leb (p .first) x) (ltb x (p .past)) h in (leb-true _ _ (v .0), ltb-true _ _ (v .1))
+
 pub within-at : (ps : List Pair) (t : ℕ → Bool) (x : ℕ) → within ps t ≡ true → inSet ps x ≡ true → t x ≡ true
 unfolding within inSet
 within-at [] t x h e = clash e refl
@@ -70,8 +74,7 @@ within-at (p ∷ ps) t x h e = go (inSet ps x) refl (both (within ps t) (allFrom
         → (within ps t ≡ true → inSet ps x ≡ true → t x ≡ true) → t x ≡ true
     go true g w ih = ih (w .0) g
     go false g w ih =
-        let r : inPair p x ≡ true = simp g at e in
-        let v = both (leb (p .first) x) (ltb x (p .past)) r in
-        let l : p .first ≤ x = leb-true (p .first) x (v .0) in
-        let u : x < p .past = ltb-true x (p .past) (v .1) in
+        let r = in-pair p x (simp g at e) in
+        let l : p .first ≤ x = r .0 in
+        let u : x < p .past = r .1 in
         all-at t (p .past - p .first) (p .first) x (w .1) l (omega arith)

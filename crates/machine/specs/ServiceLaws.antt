@@ -12,12 +12,13 @@ use lib.ListN.{getD}
 use Rattle.common.specs.Answers as answer
 use Rattle.common.specs.Instructions.{reg}
 use Rattle.common.specs.Services.{isolate, add-jump-target, add-store-target, serviceCount, isService, serviceAt, isServiceNumber}
+use Rattle.common.specs.ServiceLaws.{service-number}
 use Rattle.common.specs.Tests.{clash}
 use Rattle.rules.specs.Compartments.{member, empty}
 use Rattle.rules.specs.State.{Processor, State, inMemory, hasOwner, ownerAt, jumpersAt, writersAt, owns, mayJump, mayStore}
 use Rattle.rules.specs.Checks.{seated, formed, badOwner, arrives, goodSets, setsWithin, returns, setA, setJ, setS, isolateVerdict, addVerdict, serviceVerdict, verdict}
 use Rattle.rules.specs.Step.{owned, joined, joinedServices, joinAt, isolated, jumpAdded, storeAdded, ranService, commit, Stepped, step}
-use Rattle.rules.specs.FormLaws.{is-formed, is-numbered, service-number}
+use Rattle.rules.specs.FormLaws.{is-formed, is-numbered}
 use Rattle.monitor.specs.Outcomes.{called, Isolating, isolating, Adding, adding}
 
 -- whether a call arrives: the flag is set, and the caller is in the service's set

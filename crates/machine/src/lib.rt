@@ -20,7 +20,7 @@ pub struct Processor {
     pub pc: u32,
     // the pc number: the compartment that ran last
     pub prev: u32,
-    // whether the last instruction was a Jump or a Jal
+    // whether the last step was a Jump, a Jal or a service
     pub jumped: bool,
     // the first unused compartment number
     pub next: u32,
@@ -284,7 +284,7 @@ impl Processor {
             self.pc = m.pc;
             self.prev = m.owner;
             self.jumped = m.jumped;
-            count += 1;
+            count = count + 1;
         }
         self.ended(answers::DONE, count)
     }

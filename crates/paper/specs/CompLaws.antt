@@ -40,7 +40,7 @@ holder-holds (k ∷ C) x h = go (k .A x) refl (holder-holds C x)
 -- ---- compartment p is changed
 
 module _ (C : List Comp) (p : ℕ) (k : Comp) (h : p < length C) where
-  pub changed-same : comp (set C p k) p ≡ k
+  changed-same : comp (set C p k) p ≡ k
   changed-same = getD-set-same C p k nothing h
 
   pub changed-other : (c : ℕ) → c ≢ p → comp (set C p k) c ≡ comp C c
@@ -72,7 +72,7 @@ module _ (C : List Comp) (p : ℕ) (child : Comp) where
   pub split-length : length (split C p child) ≡ suc (length C)
   split-length = length-append rest (child ∷ []) ∙ (let e : length rest ≡ length C = rest-length in omega arith)
 
-  pub split-new : comp (split C p child) (length C) ≡ child
+  split-new : comp (split C p child) (length C) ≡ child
   split-new = ap (comp (split C p child)) (sym rest-length) ∙ getD-append-seam rest child [] nothing
 
   split-old : (c : ℕ) → c < length C → comp (split C p child) c ≡ comp rest c

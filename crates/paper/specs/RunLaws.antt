@@ -8,6 +8,7 @@ use borrow.Author.Tests.{leb-true, eqb-true, eqb-false, ne-eqb}
 use lib.Dec.{leb, eqb}
 use lib.ListN.{length, length-set}
 use Rattle.common.specs.Answers as answer
+use Rattle.common.specs.CheckLaws.{cond-same}
 use Rattle.common.specs.InstructionLaws.{words-length}
 use Rattle.common.specs.Services.{isolate, add-jump-target}
 use Rattle.paper.specs.Abstract.{State, inMemory, instructionAt, storeVerdict, instructionVerdict, wordVerdict, ranInstruction, isolateVerdict, addVerdict, serviceVerdict, described, isolated, jumpAdded, storeAdded, ranService, verdict, commit, step, Ran, oneMore, ended, run}
@@ -19,24 +20,20 @@ leb-cond : (b : Bool) (x y k : ℕ) → leb (cond b x y) k ≡ cond b (leb x k) 
 leb-cond true x y k = refl
 leb-cond false x y k = refl
 
-cond-true : (b : Bool) → cond b true true ≡ true
-cond-true true = refl
-cond-true false = refl
-
 pub abstract-answers : (a : State) → verdict a ≤ answer.no-return
 unfolding verdict wordVerdict instructionVerdict storeVerdict serviceVerdict isolateVerdict addVerdict
-abstract-answers a = let h : leb (verdict a) 12 ≡ true = simp (leb-cond, cond-true) in leb-true _ _ h
+abstract-answers a = let h : leb (verdict a) 12 ≡ true = simp (leb-cond, cond-same) in leb-true _ _ h
 
 -- ---- a run, one step after the other
 
 module _ (k : ℕ) (a : State) where
-  pub run-more : step a .answer ≡ answer.done → run (suc k) a ≡ oneMore (run k (step a .state))
+  pub run-goes-on : step a .answer ≡ answer.done → run (suc k) a ≡ oneMore (run k (step a .state))
   unfolding run
-  run-more h = simp h
+  run-goes-on h = simp h
 
-  pub run-stop : (step a .answer ≡ answer.done → ⊥) → run (suc k) a ≡ ended (step a .answer) (step a .state)
+  pub run-ends : (step a .answer ≡ answer.done → ⊥) → run (suc k) a ≡ ended (step a .answer) (step a .state)
   unfolding run
-  run-stop h = simp (ne-eqb (step a .answer) answer.done h)
+  run-ends h = simp (ne-eqb (step a .answer) answer.done h)
 
 -- j steps, then k more
 pub run-on : (j k : ℕ) (a : State) → run j a .answer ≡ answer.done → run (j + k) a .state ≡ run k (run j a .state) .state
@@ -49,13 +46,13 @@ run-on (suc j) k a h = go (eqb (step a .answer) answer.done) refl (run-on j k (s
         → run (suc j + k) a .state ≡ run k (run (suc j) a .state) .state
     go true e ih =
         let g : step a .answer ≡ 0 = eqb-true _ _ e in
-        let f = run-more j a g in
+        let f = run-goes-on j a g in
         let z : run j (step a .state) .answer ≡ 0 = sym (ap (λ (r : Ran). r .answer) f) ∙ h in
-        ap (λ (n : ℕ). run n a .state) (suc-add j k) ∙ ap (λ (r : Ran). r .state) (run-more (j + k) a g) ∙ ih z
+        ap (λ (n : ℕ). run n a .state) (suc-add j k) ∙ ap (λ (r : Ran). r .state) (run-goes-on (j + k) a g) ∙ ih z
         ∙ ap (λ (r : Ran). run k (r .state) .state) (sym f)
     go false e ih =
         let g : step a .answer ≡ 0 → ⊥ = eqb-false _ _ e in
-        absurd (g (sym (ap (λ (r : Ran). r .answer) (run-stop j a g)) ∙ h))
+        absurd (g (sym (ap (λ (r : Ran). r .answer) (run-ends j a g)) ∙ h))
 
 -- what every step keeps, a run keeps
 pub run-keeps : (Q : State → Type 0) → ((a : State) → Q a → Q (step a .state)) → (n : ℕ) (a : State) → Q a → Q (run n a .state)
@@ -83,7 +80,7 @@ pub isolated-more : (a : State) → length (isolated a .comps) ≡ suc (length (
 unfolding isolated
 isolated-more a = split-length (a .comps) (a .prev) (described a)
 
-pub step-grows : (a : State) → length (a .comps) ≤ length (step a .state .comps)
+step-grows : (a : State) → length (a .comps) ≤ length (step a .state .comps)
 unfolding step commit ranService ranInstruction jumpAdded storeAdded
 step-grows a = go (eqb (verdict a) answer.done) (inMemory a (a .pc)) (eqb (a .pc) isolate) (eqb (a .pc) add-jump-target)
   where
@@ -104,7 +101,7 @@ run-grows n a = run-keeps (λ b. length (a .comps) ≤ length (b .comps)) (λ b 
 
 -- ---- memory stays as large as it was
 
-pub step-words : (a : State) → length (step a .state .words) ≡ length (a .words)
+step-words : (a : State) → length (step a .state .words) ≡ length (a .words)
 unfolding step commit ranService ranInstruction isolated jumpAdded storeAdded
 step-words a = go (eqb (verdict a) answer.done) (inMemory a (a .pc)) (eqb (a .pc) isolate) (eqb (a .pc) add-jump-target)
   where

@@ -185,7 +185,7 @@ module _ (a : State) (ok : Sound a) (r : Runs a) where
       go true e = simp e (instruction-sound (instructionAt a) e)
       go false e = simp e (service-sound e)
 
-pub step-sound : (a : State) → Sound a → Sound (step a .state)
+step-sound : (a : State) → Sound a → Sound (step a .state)
 unfolding step
 step-sound a ok = go (eqb (verdict a) answer.done) refl
   where
@@ -239,7 +239,7 @@ module _ (words regs : List ℕ) (entry : ℕ) (most : length words ≤ 2048) wh
   unfolding initialComps
   start-length = ap suc (service-comps n 0 serviceCount)
 
-  pub start-sound : Sound (initial words regs entry)
+  start-sound : Sound (initial words regs entry)
   unfolding initial inMemory isService
   start-sound =
       let l : length start ≡ suc serviceCount = start-length in

@@ -1,27 +1,31 @@
 -- The tagged machine against the abstract one, from the bytes of any accepted image and for any number of steps.
-use mathlib.Core.Path.{_≡_, sym, ap, _∙_, subst}
-use mathlib.Core.Bool.{true, _||_, or-true}
+use mathlib.Core.Path.{_≡_, refl, sym, ap, _∙_, subst}
+use mathlib.Core.Bool.{Bool, true, false, _||_, or-true}
 use mathlib.Core.List.{List}
 use mathlib.Core.Logic.{_↔_, _⊎_, ⊎-elim}
 use Prim.Native.Nat.{ℕ, suc, _≤_, _<_}
 use native.Mathlib.Omega.{arith}
-use borrow.Author.Tests.{lt-ltb}
+use borrow.Author.Tests.{ltb-true, ltb-false, lt-ltb}
+use lib.Dec.{ltb}
 use lib.ListN.{length}
 use Rattle.common.specs.Answers as answer
 use Rattle.common.specs.Services.{isService}
+use Rattle.common.specs.Tests.{clash}
 use Rattle.paper.specs.Abstract as paper
+use Rattle.paper.specs.CompLaws.{comp-none}
 use Rattle.paper.specs.RunLaws.{run-answers, run-words}
 use Rattle.paper.specs.Sound.{InOne, Sound, run-sound}
 use Rattle.paper.specs.Property as property
-use Rattle.rules.specs.Compartments.{numbers}
-use Rattle.rules.specs.State.{State}
+use Rattle.rules.specs.Compartments.{numbers, member}
+use Rattle.rules.specs.State.{State, hasOwner, ownerAt, jumpersAt, writersAt, mayJump, mayStore}
 use Rattle.rules.specs.Checks.{verdict}
 use Rattle.rules.specs.Step.{step}
 use Rattle.rules.specs.Run.{Ran, run}
 use Rattle.rules.specs.Images.{sizeIn, entryIn, wordsOf, regsOf, load}
 use Rattle.rules.specs.Match.{Match, Inv}
+use Rattle.rules.specs.Verdicts.{owner-low}
 use Rattle.rules.specs.Start.{Accepted, words-are, accepted, loads, start-match, start-inv}
-use Rattle.rules.specs.Runs.{comps, Together, Wants65, Parted, Few, Many, Agreed, agreed, Step13, step-13, wanted}
+use Rattle.rules.specs.Runs.{Together, Wants65, Parted, Few, Many, Agreed, agreed, Step13, step-13, wanted}
 use Rattle.rules.specs.Changes.{Changes, Stored, changed}
 
 -- n steps of the tagged machine from what the loader left over the lent memories of `old`, whatever they held
@@ -38,6 +42,31 @@ abstract n bytes = paper.run n (start bytes)
 -- how many compartments it has then
 abbrev pub compartments : ℕ → List ℕ → ℕ
 compartments n bytes = length (abstract n bytes .state .comps)
+
+-- each owner is a number that is used, and so is each number in an I or a W
+pub record BelowNext (s : State) : Type 0 where
+  pub owner : (x : ℕ) → hasOwner s x ≡ true → ownerAt s x < s .cpu .next
+  pub jumper : (x c : ℕ) → member (jumpersAt s x) c ≡ true → c < s .cpu .next
+  pub writer : (x c : ℕ) → member (writersAt s x) c ≡ true → c < s .cpu .next
+
+below-next : (s : State) (a : paper.State) → Match s a → Inv s → BelowNext s
+unfolding mayJump mayStore
+below-next s a m inv =
+    record {
+      owner = owner-low s inv;
+      jumper = λ x c h. used c (λ (k : paper.Comp). k .J x) refl (m .J c x ∙ h);
+      writer = λ x c h. used c (λ (k : paper.Comp). k .S x) refl (m .S c x ∙ h);
+    }
+  where
+    -- a compartment that is not there has nothing
+    used : (c : ℕ) (f : paper.Comp → Bool) → f paper.nothing ≡ false → f (paper.comp (a .comps) c) ≡ true → c < s .cpu .next
+    used c f z h = go (ltb c (s .cpu .next)) refl
+      where
+        go : (b : Bool) → ltb c (s .cpu .next) ≡ b → c < s .cpu .next
+        go true e = ltb-true _ _ e
+        go false e =
+            let l : s .cpu .next ≤ c = ltb-false _ _ e in
+            clash h (ap f (comp-none (a .comps) c (omega (arith, m .count))) ∙ z)
 
 module _ (bytes : List ℕ) (old : State) (ok : load bytes old .answer ≡ answer.done) where
   -- ---- the start
@@ -116,6 +145,14 @@ module _ (bytes : List ℕ) (old : State) (ok : load bytes old .answer ≡ answe
 
     pub abstract-answers : abstract n bytes .answer ≤ answer.no-return
     abstract-answers = run-answers n (start bytes)
+
+    -- ---- numbers that are not used
+
+    -- no address has one of them as its owner or in its I or W
+    pub numbers-below-next : BelowNext (tagged n bytes old .state)
+    numbers-below-next =
+        ⊎-elim (λ (p : Few n (load bytes old .state) (start bytes)). below-next _ _ (p .1 .match) (p .1 .inv))
+        (λ (p : Many n (load bytes old .state) (start bytes)). below-next _ _ (p .1 .1 .match) (p .1 .1 .inv)) either
 
     -- ---- words
 

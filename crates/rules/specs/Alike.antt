@@ -4,23 +4,24 @@ use mathlib.Core.Bool.{Bool, true, false, cond, _&&_, _||_}
 use mathlib.Core.List.{List}
 use Prim.Native.Nat.{ℕ, zero, suc, _≤_}
 use native.Mathlib.Omega.{arith}
-use borrow.Author.Tests.{ltb-true, le-leb, eqb-true, eq-eqb}
+use borrow.Author.Tests.{ltb-true, eqb-true}
 use lib.Dec.{ltb, eqb}
 use lib.ListN.{length, take}
 use Rattle.common.specs.Answers as answer
 use Rattle.common.specs.Words.{Decoded, decode}
 use Rattle.common.specs.Instructions.{reg, regsAfter, wordsAfter}
+use Rattle.common.specs.InstructionLaws.{words-take, regs-take}
 use Rattle.common.specs.Services.{isolate, add-jump-target, isService}
 use Rattle.common.specs.AddressSets.{setAt, goodSet}
+use Rattle.common.specs.AddressSetLaws.{good-take, good-set-take}
 use Rattle.common.specs.Tests.{both}
 use Rattle.rules.specs.State.{Processor, State, inMemory, hasOwner, ownerAt, jumpersAt, writersAt, owns, mayJump, mayStore}
-use Rattle.rules.specs.Checks.{sameLengths, sized, numbered, seated, formed, badOwner, arrives, instructionAt, storeVerdict, instructionVerdict, wordVerdict, setA, setJ, setS, goodSets, setsWithin, returns, isolateVerdict, addVerdict, serviceVerdict, verdict}
+use Rattle.rules.specs.Checks.{numbered, seated, formed, badOwner, arrives, instructionAt, storeVerdict, instructionVerdict, wordVerdict, setA, setJ, setS, goodSets, setsWithin, returns, isolateVerdict, addVerdict, serviceVerdict, verdict}
 use Rattle.rules.specs.Step.{ranInstruction, mapFrom, owned, joined, isolated, jumpAdded, storeAdded, ranService, commit, step}
 use Rattle.rules.specs.Run.{Ran, run}
-use Rattle.rules.specs.FormLaws.{Lent}
-use Rattle.rules.specs.StepLaws.{took, passes, load-inside, add-inside}
-use Rattle.rules.specs.TagLaws.{take-map}
-use Rattle.rules.specs.BelowLaws.{good-take, set-take, words-take, regs-take, same-at, same-joined}
+use Rattle.rules.specs.FormLaws.{Lent, sized-lent}
+use Rattle.rules.specs.Passed.{Passes, passes, load-inside, add-inside, isolate-passed}
+use Rattle.rules.specs.TagLaws.{take-map, same-at, same-joined}
 use Rattle.rules.specs.Rest.{step-lent}
 
 -- the same processor, and memories that agree below N; how long they are does not matter
@@ -74,24 +75,14 @@ module _ (u : Processor) (w o j r w′ o′ j′ r′ : List ℕ) where
     good-eq q = sym (good-take w (u .n) q) ∙ ap (λ (z : List ℕ). goodSet z (u .n) q) (al .words) ∙ good-take w′ (u .n) q
 
     set-eq : (q : ℕ) → goodSet w (u .n) q ≡ true → setAt w q ≡ setAt w′ q
-    set-eq q h = sym (set-take w (u .n) q h) ∙ ap (λ (z : List ℕ). setAt z q) (al .words) ∙ set-take w′ (u .n) q (sym (good-eq q) ∙ h)
+    set-eq q h = sym (good-set-take w (u .n) q h) ∙ ap (λ (z : List ℕ). setAt z q) (al .words) ∙ good-set-take w′ (u .n) q (sym (good-eq q) ∙ h)
 
     -- ---- the checks
 
     -- 14 looks at the lengths only to compare them with one another and with N
     formed-eq : formed s ≡ formed t
-    unfolding formed sized sameLengths numbered seated
-    formed-eq =
-        simp (
-          eq-eqb (length o) (length w) (ls .owners),
-          eq-eqb (length j) (length w) (ls .jumpers),
-          eq-eqb (length r) (length w) (ls .writers),
-          le-leb (u .n) (length w) (ls .enough),
-          eq-eqb (length o′) (length w′) (lt .owners),
-          eq-eqb (length j′) (length w′) (lt .jumpers),
-          eq-eqb (length r′) (length w′) (lt .writers),
-          le-leb (u .n) (length w′) (lt .enough),
-        )
+    unfolding formed numbered seated
+    formed-eq = simp (sized-lent s ls, sized-lent t lt)
 
     bad-eq : badOwner s ≡ badOwner t
     unfolding badOwner inMemory
@@ -211,21 +202,22 @@ module _ (u : Processor) (w o j r w′ o′ j′ r′ : List ℕ) where
         }
 
     commit-alike : verdict s ≡ answer.done → Alike (commit s) (commit t)
-    unfolding commit ranService inMemory serviceVerdict isolateVerdict
+    unfolding commit ranService inMemory serviceVerdict
     commit-alike h = go (ltb (u .pc) (u .n)) (eqb (u .pc) isolate) refl refl
       where
+        p : Passes s
+        p = passes s h
+
         rest : cond (ltb (u .pc) (u .n)) (wordVerdict s (ownerAt s (u .pc)) (instructionAt s)) (serviceVerdict s (u .prev)) ≡ answer.done
-        rest = passes s h .rest
+        rest = p .rest
 
         go : (b c : Bool) → ltb (u .pc) (u .n) ≡ b → eqb (u .pc) isolate ≡ c → Alike (commit s) (commit t)
         go true c e f = simp (e, ← owner-eq, ← instruction-eq e) (ran-alike (ownerAt s (u .pc)) (instructionAt s) (simp e at rest))
-        go false true e f =
-            let v : isolateVerdict s (u .prev) ≡ answer.done = simp (e, f) at rest in
-            simp (e, f) (isolated-alike (took (goodSets s) _ 7 v .0))
+        go false true e f = simp (e, f) (isolated-alike (isolate-passed s (u .prev) (simp (e, f) at rest) .good))
         go false false e f = add (eqb (u .pc) add-jump-target) refl
           where
             l : ltb (reg (u .regs) 1) (u .n) ≡ true
-            l = add-inside s h e (simp (e, f) at rest) .named
+            l = add-inside s p e (simp (e, f) at rest) .named
 
             add : (d : Bool) → eqb (u .pc) add-jump-target ≡ d → Alike (commit s) (commit t)
             add true g = simp (e, f, g) (jump-added-alike l)

@@ -20,7 +20,7 @@ use Rattle.rules.specs.Checks.{instructionAt, target, wordVerdict, verdi
 use Rattle.rules.specs.Step.{ranInstruction, isolated, jumpAdded, storeAdded, ranService, commit, step}
 use Rattle.rules.specs.Match.{Match, Inv, shadow, is-shadow}
 use Rattle.rules.specs.Verdicts.{current-is}
-use Rattle.rules.specs.Passed.{Runs, runs, store-passed}
+use Rattle.rules.specs.Passed.{Passes, passes, store-passed}
 
 -- the word at x after the step is not what it was
 abbrev pub Changes : State → ℕ → Type 0
@@ -48,20 +48,20 @@ module _ (s : State) (C : List paper.Comp) (m : Match s (shadow s C)) (inv : Inv
   unfolding instructionAt wordsAfter step inMemory owns
   by-store h e d = go (eqb (i .op) is.store) (ℕ-discrete x (target s i)) refl
     where
-      r : Runs s
-      r = runs s h
+      r : Passes s
+      r = passes s h
 
       v : wordVerdict s (ownerAt s (s .cpu .pc)) i ≡ answer.done
       v = simp e at (r .rest)
 
       c : paper.holder C (s .cpu .pc) ≡ ownerAt s (s .cpu .pc)
-      c = current-is s C m inv (r .has)
+      c = current-is s C m inv (r .place)
 
       go : (b : Bool) → Dec (x ≡ target s i) → eqb (i .op) is.store ≡ b → Stored s (shadow s C) x
       go false q g = absurd (d (simp g))
       go true (no q) g = absurd (d (simp g (getD-set-other (s .words) (target s i) x (reg (s .cpu .regs) (i .b)) 0 q)))
       go true (yes q) g =
-          let p = store-passed s (ownerAt s (s .cpu .pc)) i v (eqb-true _ _ g) in
+          let p = store-passed s (ownerAt s (s .cpu .pc)) i v g in
           let may : (owns s (ownerAt s (s .cpu .pc)) x || mayStore s (ownerAt s (s .cpu .pc)) x) ≡ true = rw q (p .may) in
           record {
             ran = h;
@@ -70,7 +70,7 @@ module _ (s : State) (C : List paper.Comp) (m : Match s (shadow s C)) (inv : Inv
             store = eqb-true _ _ g;
             target = sym q;
             inside = subst (λ (y : ℕ). y < s .cpu .n) (sym q) (ltb-true _ _ (p .inside));
-            holds = simp (c, m .A, r .has, eq-eqb (ownerAt s (s .cpu .pc)) (ownerAt s (s .cpu .pc)) refl);
+            holds = simp (c, m .A, r .place, eq-eqb (ownerAt s (s .cpu .pc)) (ownerAt s (s .cpu .pc)) refl);
             one = λ k z.
                 let y : owns s k (s .cpu .pc) ≡ true = sym (m .A k (s .cpu .pc)) ∙ z in
                 let t = both (hasOwner s (s .cpu .pc)) (eqb (ownerAt s (s .cpu .pc)) k) y in

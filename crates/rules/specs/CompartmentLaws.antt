@@ -1,19 +1,16 @@
--- Laws of compartment sets: who is a member after an insertion, how many there are, which is lowest.
-use mathlib.Core.Path.{_≡_, refl, sym, ap, ap₂, _∙_, subst}
-use mathlib.Core.Bool.{Bool, true, false, cond, _&&_, _||_, or-true, or-false}
+-- Laws of compartment sets: who is a member after an insertion, and that joining twice changes nothing.
+use mathlib.Core.Path.{_≡_, refl, sym, ap, ap₂, _∙_}
+use mathlib.Core.Bool.{Bool, true, false, cond, _||_, or-true, or-false}
 use mathlib.Core.Logic.{_≢_}
 use Prim.Native.Nat.{ℕ, zero, suc, _+_, _-_, _*_, _/_, _%_, _^_, _<_, _≤_, max}
-use native.Mathlib.Nat.{one-mul, mod-lt, mul-mod-left, pow-suc, div-eq-of-lt, mul-div-cancel, le-of-suc-le-suc, not-suc-le-zero, div-one, div-lt-iff-lt-mul}
-use native.Mathlib.Numerals.{one-add}
+use native.Mathlib.Nat.{one-mul, mod-lt, mul-mod-left, pow-suc, div-eq-of-lt, mul-div-cancel, le-of-suc-le-suc, not-suc-le-zero}
 use native.Mathlib.Omega.{arith, ne-cases}
-use borrow.Author.Tests.{eq-eqb, ne-eqb, eqb-true, eqb-false, lt-ltb, ltb-true}
+use borrow.Author.Tests.{eqb-true, eqb-false, lt-ltb}
 use lib.Dec.{eqb, ltb, lit<}
-use lib.Bits.{bitOr, or-shr, or-mod, or-zero-r, or-lt, or-step, or-self}
-use lib.Arith.{bin-ind, digits-mod, lt-one}
-use lib.Pow.{pow-pos, pow-lt, pow-add, pow-mono, shr-shr}
-use lib.Count.{ones, ones-step, trailingZeros, under}
-use Rattle.common.specs.Instructions.{bit}
-use Rattle.rules.specs.Compartments.{numbers, member, insert, empty, services, main, sizeBelow, size, lowestFrom, lowest}
+use lib.Bits.{bitOr, or-shr, or-mod, or-zero-r, or-step, or-self}
+use lib.Arith.{bin-ind, digits-mod}
+use lib.Pow.{pow-pos, pow-lt, pow-add, pow-mono}
+use Rattle.rules.specs.Compartments.{numbers, member, insert, empty, services, main}
 
 -- ---- bits of a sum of bits
 
@@ -72,15 +69,6 @@ member-insert set n c h = simp (lt-ltb n numbers h) (go (eqb c n) refl)
         let d = digit-other n c (λ (s : n ≡ c). eqb-false c n e (sym s)) in
         let f : bitOr set (2 ^ n) / 2 ^ c % 2 ≡ set / 2 ^ c % 2 = digit-or set (2 ^ n) c ∙ ap (bitOr (set / 2 ^ c % 2)) d ∙ or-zero-r (set / 2 ^ c % 2) in
         simp (f, e, or-false)
-
--- a set stays 64 bits wide
-pub insert-fits : (set n : ℕ) → set < 2 ^ numbers → insert set n < 2 ^ numbers
-unfolding insert
-insert-fits set n fits = go (ltb n numbers) refl
-  where
-    go : (b : Bool) → ltb n numbers ≡ b → cond b (bitOr set (2 ^ n)) set < 2 ^ numbers
-    go true e = or-lt 64 set (2 ^ n) fits (pow-lt (ltb-true n numbers e))
-    go false e = fits
 
 or-twice : (a b : ℕ) → bitOr (bitOr a b) b ≡ bitOr a b
 or-twice a b = bin-ind (λ (n : ℕ). (b : ℕ) → bitOr (bitOr n b) b ≡ bitOr n b) (λ b. or-self b) (λ n ih b. or-step (bitOr n b) b

@@ -1,17 +1,18 @@
--- What passing checks 14 and 15 says of a state, as lengths and orders; and where the services stand.
-use mathlib.Core.Path.{_≡_, refl}
-use mathlib.Core.Bool.{Bool, true, false, _&&_}
-use Prim.Native.Nat.{ℕ, _-_, _≤_, _<_}
+-- What passing checks 14 and 15 says of a state, as lengths and orders, and which state passes 14.
+use mathlib.Core.Path.{_≡_, refl, _∙_}
+use mathlib.Core.Bool.{Bool, true, false, _&&_, and-true}
+use Prim.Native.Nat.{ℕ, _≤_, _<_}
 use native.Mathlib.Omega.{arith}
-use borrow.Author.Tests.{ltb-true, leb-true, leb-false, eqb-true, le-leb, lt-ltb, le-ltb}
+use borrow.Author.Tests.{ltb-true, leb-true, leb-false, eqb-true, le-leb, lt-ltb, le-ltb, eq-eqb}
 use lib.Dec.{leb, eqb}
 use lib.ListN.{length}
 use Rattle.common.specs.Tests.{both, clash}
-use Rattle.common.specs.Services.{isolate, serviceCount, isService, serviceAt, isServiceNumber}
+use Rattle.common.specs.Services.{serviceCount, isService, serviceAt, isServiceNumber}
+use Rattle.common.specs.ServiceLaws.{service-small}
 use Rattle.rules.specs.State.{State, firstNumber, inMemory, hasOwner, ownerAt}
 use Rattle.rules.specs.Checks.{sameLengths, sized, numbered, seated, formed, badOwner}
 
--- ---- the parts of 14
+-- ---- the sizes
 
 -- memories of one length, N or longer
 pub record Lent (s : State) : Type 0 where
@@ -25,19 +26,44 @@ pub record Sized (s : State) : Type 0 where
   pub some : 1 ≤ s .cpu .n
   pub most : s .cpu .n ≤ 2048
 
+-- what 27 asks for too
+pub same-lengths : (s : State) → sameLengths s ≡ true
+    → (length (s .owners) ≡ length (s .words)) × (length (s .jumpers) ≡ length (s .words)) × (length (s .writers) ≡ length (s .words))
+unfolding sameLengths
+same-lengths s h =
+    let a = both (eqb (length (s .owners)) (length (s .words)) && eqb (length (s .jumpers)) (length (s .words))) _ h in
+    let b = both (eqb (length (s .owners)) (length (s .words))) _ (a .0) in
+    (eqb-true _ _ (b .0), eqb-true _ _ (b .1), eqb-true _ _ (a .1))
+
 pub is-sized : (s : State) → sized s ≡ true → Sized s
-unfolding sized sameLengths
+unfolding sized
 is-sized s h =
     let a = both (sameLengths s && leb 1 (s .cpu .n) && leb (s .cpu .n) 2048) _ h in
     let b = both (sameLengths s && leb 1 (s .cpu .n)) _ (a .0) in
     let c = both (sameLengths s) _ (b .0) in
-    let d = both (eqb (length (s .owners)) (length (s .words)) && eqb (length (s .jumpers)) (length (s .words))) _ (c .0) in
-    let e = both (eqb (length (s .owners)) (length (s .words))) _ (d .0) in
+    let l = same-lengths s (c .0) in
     record {
-      lent = record { owners = eqb-true _ _ (e .0); jumpers = eqb-true _ _ (e .1); writers = eqb-true _ _ (d .1); enough = leb-true _ _ (a .1) };
+      lent = record { owners = l .0; jumpers = l .1; writers = l .2; enough = leb-true _ _ (a .1) };
       some = leb-true _ _ (c .1);
       most = leb-true _ _ (b .1);
     }
+
+-- of lent memories, 14 looks at N alone
+pub sized-lent : (s : State) → Lent s → sized s ≡ (leb 1 (s .cpu .n) && leb (s .cpu .n) 2048)
+unfolding sized sameLengths
+sized-lent s l =
+    simp (
+      eq-eqb (length (s .owners)) (length (s .words)) (l .owners),
+      eq-eqb (length (s .jumpers)) (length (s .words)) (l .jumpers),
+      eq-eqb (length (s .writers)) (length (s .words)) (l .writers),
+      le-leb (s .cpu .n) (length (s .words)) (l .enough),
+      and-true,
+    )
+
+pub sized-is : (s : State) → Sized s → sized s ≡ true
+sized-is s z = sized-lent s (z .lent) ∙ simp (le-leb 1 (s .cpu .n) (z .some), le-leb (s .cpu .n) 2048 (z .most))
+
+-- ---- the numbers
 
 pub record Numbered (s : State) : Type 0 where
   pub low : 4 ≤ s .cpu .next
@@ -55,6 +81,8 @@ pub numbered-is : (s : State) → Numbered s → numbered s ≡ true
 unfolding numbered firstNumber serviceCount
 numbered-is s n = simp (le-leb firstNumber (s .cpu .next) (n .low), le-leb (s .cpu .next) 64 (n .high), lt-ltb (s .cpu .prev) (s .cpu .next) (n .prev))
 
+-- ---- all of 14
+
 pub record Form (s : State) : Type 0 where
   pub sized : sized s ≡ true
   pub numbered : numbered s ≡ true
@@ -67,32 +95,32 @@ is-formed s h =
     let b = both (sized s) _ (a .0) in
     record { sized = b .0; numbered = b .1; seated = a .1 }
 
-pub n-most : (s : State) → formed s ≡ true → s .cpu .n ≤ 2048
-n-most s h = is-sized s (is-formed s h .sized) .most
+module _ (s : State) (h : formed s ≡ true) where
+  pub lent-memories : Lent s
+  lent-memories = is-sized s (is-formed s h .sized) .lent
 
--- ---- the services stand outside memory
+  pub n-most : s .cpu .n ≤ 2048
+  n-most = is-sized s (is-formed s h .sized) .most
 
-pub service-range : (x : ℕ) → isService x ≡ true → (4096 ≤ x) × (x < 4099)
-unfolding isService serviceCount
-service-range x h = let t = both (leb isolate x) _ h in (leb-true _ _ (t .0), ltb-true _ _ (t .1))
+  pub numbers-good : Numbered s
+  numbers-good = is-numbered s (is-formed s h .numbered)
 
--- a service number owns each service
-pub service-number : (x : ℕ) → isService x ≡ true → isServiceNumber (serviceAt x) ≡ true
-unfolding isServiceNumber serviceAt serviceCount
-service-number x h =
-    let r = service-range x h in
-    let l : 4096 ≤ x = r .0 in
-    let u : x < 4099 = r .1 in
-    simp (le-leb 1 (x - 4095) (omega arith), le-leb (x - 4095) 3 (omega arith))
+  pub outside : (x : ℕ) → 2048 ≤ x → inMemory s x ≡ false
+  unfolding inMemory
+  outside x l = let m : s .cpu .n ≤ 2048 = n-most in le-ltb x (s .cpu .n) (omega arith)
+
+  -- a service's own number is below the first unused one
+  pub service-below : (x : ℕ) → isService x ≡ true → serviceAt x < s .cpu .next
+  unfolding serviceCount
+  service-below x e =
+      let l : serviceAt x ≤ 3 = service-small x e in
+      let m : 4 ≤ s .cpu .next = numbers-good .low in
+      omega arith
 
 -- what has an owner is a memory word or a service
-pub at-service : (s : State) → hasOwner s (s .cpu .pc) ≡ true → inMemory s (s .cpu .pc) ≡ false → isService (s .cpu .pc) ≡ true
+pub at-service : (s : State) (x : ℕ) → hasOwner s x ≡ true → inMemory s x ≡ false → isService x ≡ true
 unfolding hasOwner
-at-service s h e = simp e at h
-
-pub outside : (s : State) → formed s ≡ true → (x : ℕ) → 2048 ≤ x → inMemory s x ≡ false
-unfolding inMemory
-outside s h x l = let m : s .cpu .n ≤ 2048 = n-most s h in le-ltb x (s .cpu .n) (omega arith)
+at-service s x h e = simp e at h
 
 -- ---- what passing 15 says
 

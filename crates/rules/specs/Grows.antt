@@ -1,16 +1,14 @@
 -- "Numbers are never used again": next never falls, and grows by one exactly at an isolate that ran; N, the registers and the services stay as many as they were.
 use mathlib.Core.Path.{_≡_, refl, sym, _∙_}
 use mathlib.Core.Bool.{Bool, true, false, cond, _&&_}
-use mathlib.Core.List.{List}
 use mathlib.Core.Logic.{_↔_}
 use Prim.Native.Nat.{ℕ, suc, _≤_, _<_}
 use native.Mathlib.Omega.{arith}
 use borrow.Author.Tests.{eqb-true, eq-eqb}
 use lib.Dec.{eqb}
-use lib.ListN.{length, length-set}
+use lib.ListN.{length}
 use Rattle.common.specs.Answers as answer
-use Rattle.common.specs.Words.{Decoded}
-use Rattle.common.specs.Instructions.{regsAfter}
+use Rattle.common.specs.InstructionLaws.{regs-length}
 use Rattle.common.specs.Services.{isolate, add-jump-target}
 use Rattle.common.specs.Tests.{both}
 use Rattle.rules.specs.State.{State, inMemory}
@@ -18,7 +16,8 @@ use Rattle.rules.specs.Checks.{verdict}
 use Rattle.rules.specs.Step.{ranInstruction, joinedServices, isolated, jumpAdded, storeAdded, ranService, commit, step}
 use Rattle.rules.specs.Run.{run}
 use Rattle.rules.specs.FormLaws.{outside}
-use Rattle.rules.specs.StepLaws.{cond-same, passes, step-cases, run-keeps}
+use Rattle.rules.specs.Passed.{passes}
+use Rattle.rules.specs.StepLaws.{step-cases, run-keeps}
 use Rattle.rules.specs.TagLaws.{length-map}
 
 -- ---- next
@@ -86,14 +85,6 @@ same-sizes s = record { n = refl; registers = refl; services = refl }
 
 pub same-sizes-then : (s t u : State) → SameSizes s t → SameSizes t u → SameSizes s u
 same-sizes-then s t u a b = record { n = b .n ∙ a .n; registers = b .registers ∙ a .registers; services = b .services ∙ a .services }
-
-length-cond : (b : Bool) (l m : List ℕ) → length (cond b l m) ≡ cond b (length l) (length m)
-length-cond true l m = refl
-length-cond false l m = refl
-
-regs-length : (i : Decoded) (pc : ℕ) (regs words : List ℕ) → length (regsAfter i pc regs words) ≡ length regs
-unfolding regsAfter
-regs-length i pc regs words = simp (length-cond, length-set, cond-same)
 
 services-length : (s : State) → length (isolated s .cpu .services) ≡ length (s .cpu .services)
 unfolding isolated joinedServices

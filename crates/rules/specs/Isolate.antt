@@ -5,10 +5,10 @@ use mathlib.Core.List.{List}
 use mathlib.Core.Logic.{_≢_}
 use Prim.Native.Nat.{ℕ, suc, _+_, _-_, _≤_, _<_}
 use native.Mathlib.Omega.{arith}
-use borrow.Author.Tests.{ltb-true, eqb-true, le-leb, lt-leb, lt-ltb, ne-eqb}
+use borrow.Author.Tests.{ltb-true, eqb-true, ne-eqb}
 use lib.Dec.{ltb, eqb}
 use lib.ListN.{getD, length}
-use Rattle.common.specs.Services.{isolate, serviceCount, isService, isServiceNumber}
+use Rattle.common.specs.Services.{isolate, serviceCount, isService}
 use Rattle.common.specs.ServiceLaws.{service-range}
 use Rattle.common.specs.AddressSets.{Pair, inSet, within}
 use Rattle.common.specs.AddressSetLaws.{within-at}
@@ -17,18 +17,19 @@ use Rattle.paper.specs.Abstract as paper
 use Rattle.paper.specs.CompLaws.{split-length, split-test, split-gone, split-stays}
 use Rattle.rules.specs.Compartments.{numbers, member, insert, empty}
 use Rattle.rules.specs.CompartmentLaws.{member-empty}
-use Rattle.rules.specs.State.{State, firstNumber, inMemory, hasOwner, ownerAt, jumpersAt, writersAt, owns, mayJump, mayStore}
+use Rattle.rules.specs.State.{State, inMemory, hasOwner, ownerAt, jumpersAt, writersAt, owns, mayJump, mayStore}
 use Rattle.rules.specs.Checks.{setA, setJ, setS}
-use Rattle.rules.specs.Step.{below, owned, joined, joinedServices, isolated}
+use Rattle.rules.specs.Step.{owned, joinedServices, isolated}
+use Rattle.rules.specs.FormLaws.{Lent, lent-memories}
+use Rattle.rules.specs.Passed.{Passes, owned-inside, Isolates, number-left}
+use Rattle.rules.specs.TagLaws.{getD-map, member-insert-if}
+use Rattle.rules.specs.JoinLaws.{owner-after, join-all}
 use Rattle.rules.specs.Match.{Match, Inv, shadow}
 use Rattle.rules.specs.Verdicts.{sets-read}
-use Rattle.rules.specs.TagLaws.{length-map, getD-map, member-insert-if}
-use Rattle.rules.specs.JoinLaws.{join-all}
-use Rattle.rules.specs.Passed.{Isolates}
-use Rattle.rules.specs.Commits.{caller-there, owned-inside, service-current, service-low}
+use Rattle.rules.specs.Commits.{caller-there, service-current}
 
-module _ (s : State) (C : List paper.Comp) (m : Match s (shadow s C)) (inv : Inv s) (has : hasOwner s (s .cpu .pc) ≡ true)
-    (out : inMemory s (s .cpu .pc) ≡ false) (is : Isolates s (s .cpu .prev)) where
+module _ (s : State) (C : List paper.Comp) (m : Match s (shadow s C)) (inv : Inv s) (passes : Passes s) (out : inMemory s (s .cpu .pc) ≡ false)
+    (is : Isolates s (s .cpu .prev)) where
   abbrev p : ℕ
   p = s .cpu .prev
 
@@ -46,10 +47,13 @@ module _ (s : State) (C : List paper.Comp) (m : Match s (shadow s C)) (inv : Inv
   toS = inSet (setS s)
 
   free : next < numbers
-  free = let h : next ≤ numbers = inv .high in let f : next ≡ numbers → ⊥ = is .free in omega arith
+  free = number-left s p (inv .formed) is
+
+  abbrev lent : Lent s
+  lent = lent-memories s (inv .formed)
 
   inside : (x : ℕ) → owns s p x ≡ true → inMemory s x ≡ true
-  inside = owned-inside s C m inv has out
+  inside = owned-inside s passes out
 
   A-owned : (x : ℕ) → toA x ≡ true → owns s p x ≡ true
   A-owned x e = within-at (setA s) (owns s p) x (is .A) e
@@ -69,7 +73,7 @@ module _ (s : State) (C : List paper.Comp) (m : Match s (shadow s C)) (inv : Inv
   store-tags : (c x : ℕ) → mayStore (isolated s) c x ≡ (mayStore s c x || (toS x && eqb c next))
   unfolding mayStore isolated writersAt inMemory
   store-tags c x =
-      join-all (s .cpu .n) (s .writers) next (omega (arith, inv .writers, inv .lent)) free c x (setS s) empty empty
+      join-all (s .cpu .n) (s .writers) next (omega (arith, lent .writers, lent .enough)) free c x (setS s) empty empty
       (λ e. simp (none (setS s) (mayStore s p) x (is .S) e (simp (e, member-empty)), or-false))
 
   -- a service's set, where J' may have it
@@ -87,7 +91,7 @@ module _ (s : State) (C : List paper.Comp) (m : Match s (shadow s C)) (inv : Inv
   jump-tags : (c x : ℕ) → mayJump (isolated s) c x ≡ (mayJump s c x || (toJ x && eqb c next))
   unfolding mayJump isolated jumpersAt inMemory
   jump-tags c x =
-      join-all (s .cpu .n) (s .jumpers) next (omega (arith, inv .jumpers, inv .lent)) free c x (setJ s) _ _ (outside (isService x) refl)
+      join-all (s .cpu .n) (s .jumpers) next (omega (arith, lent .jumpers, lent .enough)) free c x (setJ s) _ _ (outside (isService x) refl)
     where
       outside : (b : Bool) → isService x ≡ b → ltb x (s .cpu .n) ≡ false
           → member (cond (isService x) (getD (joinedServices (setJ s) next (s .cpu .services)) (x - isolate) empty) empty) c
@@ -95,14 +99,8 @@ module _ (s : State) (C : List paper.Comp) (m : Match s (shadow s C)) (inv : Inv
       outside true f e = simp f (service-tags c x f)
       outside false f e = simp (f, none (setJ s) (mayJump s p) x (is .J) e (simp (e, f, member-empty)), or-false)
 
-  -- the new owner of a memory word
-  abbrev new : ℕ → ℕ
-  new x = getD (owned (s .cpu .n) (setA s) next (s .owners)) x 0
-
-  owner-tag : (x : ℕ) → x < s .cpu .n → new x ≡ cond (toA x) next (getD (s .owners) x 0)
-  unfolding owned
-  owner-tag x h =
-      getD-map (λ x owner. cond (below (s .cpu .n) (setA s) x) next owner) (s .owners) x (omega (arith, inv .owners, inv .lent)) ∙ simp (lt-ltb x (s .cpu .n) h)
+  owner-tag : (x : ℕ) → x < s .cpu .n → getD (owned (s .cpu .n) (setA s) next (s .owners)) x 0 ≡ cond (toA x) next (getD (s .owners) x 0)
+  owner-tag = owner-after (s .cpu .n) (setA s) next (s .owners) (omega (arith, lent .owners, lent .enough))
 
   own-gone : (c x : ℕ) → toA x ≡ true → owns (isolated s) c x ≡ eqb next c
   unfolding owns isolated ownerAt hasOwner inMemory
@@ -125,7 +123,7 @@ module _ (s : State) (C : List paper.Comp) (m : Match s (shadow s C)) (inv : Inv
   C′ = paper.split C p child
 
   there : p < length C
-  there = caller-there s C m inv has out
+  there = caller-there s C m inv
 
   -- an address has one owner
   one-owner : (x : ℕ) → owns s p x ≡ true → (d : ℕ) → d ≢ p → paper.comp C d .A x ≡ false
@@ -168,42 +166,10 @@ module _ (s : State) (C : List paper.Comp) (m : Match s (shadow s C)) (inv : Inv
             words = refl;
             regs = refl;
             pc = refl;
-            prev = service-current s C m inv has out;
+            prev = service-current s C m inv passes out;
             jumped = refl;
             count = split-length C p child ∙ ap suc (m .count);
             A = A-is;
             J = J-is;
             S = S-is;
           }
-
-  pub isolate-inv : Inv (isolated s)
-  unfolding isolated owned joined joinedServices inMemory isServiceNumber firstNumber
-  isolate-inv =
-      let k : suc serviceCount ≤ next = inv .low in
-      let f : next < numbers = free in
-      let l = service-low s C m inv has out in
-      record {
-        owners = length-map _ 0 (s .owners) ∙ inv .owners;
-        jumpers = length-map _ 0 (s .jumpers) ∙ inv .jumpers;
-        writers = length-map _ 0 (s .writers) ∙ inv .writers;
-        some = inv .some;
-        most = inv .most;
-        lent = inv .lent;
-        sets = length-map _ 0 (s .cpu .services) ∙ inv .sets;
-        low = omega arith;
-        high = omega arith;
-        prev = omega arith;
-        caller = λ z. clash (is .back) z;
-        owner = λ x h. owner x h (toA x) refl;
-      }
-    where
-      owner : (x : ℕ) → x < s .cpu .n → (b : Bool) → toA x ≡ b → (isServiceNumber (new x) ≡ false) × (new x < suc next)
-      owner x h true e =
-          let k : suc serviceCount ≤ next = inv .low in
-          let g : new x ≡ next = owner-tag x h ∙ simp e in
-          (ap isServiceNumber g ∙ simp (le-leb 1 next (omega arith), lt-leb next serviceCount (omega arith)), omega arith)
-      owner x h false e =
-          let g : new x ≡ getD (s .owners) x 0 = owner-tag x h ∙ simp e in
-          let o = inv .owner x h in
-          let u : getD (s .owners) x 0 < next = o .1 in
-          (ap isServiceNumber g ∙ o .0, omega arith)

@@ -1,19 +1,24 @@
--- Who is in the sets of a memory after a compartment number joined some of them.
+-- Whose a word is after an isolate, and who is in the sets of a memory after a compartment number joined some of them.
 use mathlib.Core.Path.{_≡_, refl, sym, ap, _∙_, subst}
 use mathlib.Core.Bool.{Bool, true, false, cond, _&&_, _||_, or-false}
 use mathlib.Core.List.{List}
 use Prim.Native.Nat.{ℕ, _≤_, _<_}
 use native.Mathlib.Omega.{arith}
 use native.Mathlib.Decide.{ℕ-discrete}
-use borrow.Author.Tests.{ltb-true, ltb-false, eq-eqb, ne-eqb}
+use borrow.Author.Tests.{ltb-true, ltb-false, lt-ltb, eq-eqb, ne-eqb}
 use lib.Dec.{ltb, eqb}
 use lib.ListN.{getD, length}
 use lib.Seq.{getD-set-same, getD-set-other}
 use Rattle.common.specs.AddressSets.{Pair, inSet}
 use Rattle.rules.specs.Compartments.{numbers, member, insert, empty}
 use Rattle.rules.specs.CompartmentLaws.{member-insert}
-use Rattle.rules.specs.Step.{below, joined, joinAt}
+use Rattle.rules.specs.Step.{below, owned, joined, joinAt}
 use Rattle.rules.specs.TagLaws.{getD-map, member-insert-if}
+
+pub owner-after : (n : ℕ) (ps : List Pair) (k : ℕ) (owners : List ℕ) → n ≤ length owners → (x : ℕ) → x < n
+    → getD (owned n ps k owners) x 0 ≡ cond (inSet ps x) k (getD owners x 0)
+unfolding owned
+owner-after n ps k owners fits x h = getD-map (λ x owner. cond (below n ps x) k owner) owners x (omega arith) ∙ simp (lt-ltb x n h)
 
 -- the sets below n are those of a memory, and past it stands another
 module _ (n : ℕ) (sets : List ℕ) (k : ℕ) (fits : n ≤ length sets) (small : k < numbers) (c x : ℕ) where

@@ -5,13 +5,14 @@ pub mod Checks
 pub mod Step
 pub mod Run
 pub mod Images
+pub mod Counts
 -- ---- laws
 pub mod CompartmentLaws
 pub mod FormLaws
+pub mod Passed
 pub mod StepLaws
 pub mod TagLaws
 pub mod JoinLaws
-pub mod BelowLaws
 -- ---- theorems of the rules
 pub mod Meaning
 pub mod Stays
@@ -27,11 +28,10 @@ pub mod Leaving
 pub mod Alike
 pub mod Lines
 pub mod LineProofs
-pub mod SheetImages
 -- ---- the agreement with the paper's abstract machine
 pub mod Match
+pub mod Keeps
 pub mod Verdicts
-pub mod Passed
 pub mod Commits
 pub mod Isolate
 pub mod OneStep

@@ -2,11 +2,11 @@
 use mathlib.Core.Path.{_≡_, refl, ap, _∙_, subst}
 use mathlib.Core.Bool.{true, false, cond, or-true}
 use mathlib.Core.List.{List}
-use Prim.Native.Nat.{ℕ, suc, _≤_, _<_}
+use Prim.Native.Nat.{ℕ, suc, _≤_}
 use native.Mathlib.Omega.{arith}
 use borrow.Author.Tests.{ltb-true, lt-ltb, le-ltb, eq-eqb, ne-eqb}
 use lib.Dec.{ltb, eqb}
-use lib.ListN.{getD, length, drop, replicate, length-replicate, getD-replicate, List·getD-append}
+use lib.ListN.{getD, length}
 use lib.Seq.{getD-set-same}
 use Rattle.common.specs.Answers as answer
 use Rattle.common.specs.Opcodes as is
@@ -14,17 +14,19 @@ use Rattle.common.specs.Words.{row, allowed, Decoded, instruction, decode}
 use Rattle.common.specs.Instructions.{offset, displaced, branch, reg, arithmetic, pcAfter, regsAfter, wordsAfter, jumps}
 use Rattle.common.specs.Services.{isolate, serviceCount, isService, serviceAt, isServiceNumber}
 use Rattle.common.specs.AddressSets.{isEmpty, inSet}
-use Rattle.rules.specs.Compartments.{member, insert, services}
+use Rattle.common.specs.Tests.{clash}
+use Rattle.rules.specs.Compartments.{member, empty, services}
 use Rattle.rules.specs.CompartmentLaws.{member-services, member-main}
 use Rattle.rules.specs.State.{State, firstNumber, inMemory, hasOwner, ownerAt, jumpersAt, writersAt, owns, mayJump, mayStore}
 use Rattle.rules.specs.Checks.{sameLengths, sized, numbered, seated, formed, badOwner, arrives, instructionAt, instructionVerdict, wordVerdict, setA, setJ, goodSets, setsWithin, returns, isolateVerdict, serviceVerdict, verdict}
-use Rattle.rules.specs.Step.{ranInstruction, mapFrom, below, joined, isolated, ranService, commit, Stepped, step}
+use Rattle.rules.specs.Step.{ranInstruction, joined, isolated, ranService, commit, Stepped, step}
 use Rattle.rules.specs.Run.{run}
-use Rattle.rules.specs.Images.{over, loaded}
+use Rattle.rules.specs.Images.{loaded}
 use Rattle.rules.specs.FormLaws.{is-sized, is-formed, outside}
 use Rattle.rules.specs.StepLaws.{answer-is, step-runs}
 use Rattle.rules.specs.Formed.{step-formed}
-use Rattle.rules.specs.TagLaws.{getD-map, member-insert-if}
+use Rattle.rules.specs.TagLaws.{filled}
+use Rattle.rules.specs.JoinLaws.{join-all}
 use Rattle.rules.specs.Lines.{Sum, At, Back, TagsAsLoaded, Call, Called, Full, table, All}
 
 -- ---- an instruction at pc runs
@@ -119,12 +121,7 @@ isolate-step s h v = step-runs s v ∙ simp (isolate-outside s (h .formed) (h .a
 pub loaded-tags : (words regs : List ℕ) (entry : ℕ) (old : State) → TagsAsLoaded (loaded words regs entry old)
 unfolding loaded serviceCount
 loaded-tags words regs entry old =
-    record { owners = filled 0 (old .owners); jumpers = filled services (old .jumpers); service = refl; next = refl }
-  where
-    filled : (v : ℕ) (old : List ℕ) (x : ℕ) → x < length words → getD (over (replicate (length words) v) old) x 0 ≡ v
-    filled v old x h =
-        let l : length (replicate (length words) v) ≡ length words = length-replicate (length words) v in
-        List·getD-append (replicate (length words) v) (drop (length (replicate (length words) v)) old) 0 x (omega arith) ∙ getD-replicate (length words) x v 0 h
+    record { owners = filled (length words) 0 (old .owners); jumpers = filled (length words) services (old .jumpers); service = refl; next = refl }
 
 -- the state at isolate, after the Jump
 abbrev at-isolate : State → State
@@ -190,7 +187,7 @@ call-lost s h e =
 
 -- 1 is in I of the word at 0, whether 0 is in J' or not
 call-arrives : (s : State) → sized s ≡ true → TagsAsLoaded s → reg (s .cpu .regs) 15 ≡ 0 → arrives (isolated (at-isolate s)) ≡ true
-unfolding isolated arrives mayJump jumpersAt inMemory joined serviceAt firstNumber serviceCount
+unfolding isolated arrives mayJump jumpersAt inMemory serviceAt firstNumber serviceCount
 call-arrives s z t e =
     let f = is-sized s z in
     let j : length (s .jumpers) ≡ length (s .words) = f .lent .jumpers in
@@ -199,10 +196,8 @@ call-arrives s z t e =
     let l : ltb 0 (s .cpu .n) ≡ true = lt-ltb 0 (s .cpu .n) (omega arith) in
     let n : s .cpu .next ≡ 4 = t .next in
     let old : member (getD (s .jumpers) 0 0) 1 ≡ true = ap (λ (v : ℕ). member v 1) (t .jumpers 0 (ltb-true _ _ l)) ∙ member-services 1 in
-    let new = getD-map (λ x set. cond (below (s .cpu .n) (setJ s) x) (insert set (s .cpu .next)) set) (s .jumpers) 0 (omega arith) in
-    let joins = member-insert-if (below (s .cpu .n) (setJ s) 0) (getD (s .jumpers) 0 0) (s .cpu .next) 1 (omega arith) in
-    let y : member (getD (mapFrom (λ x set. cond (below (s .cpu .n) (setJ s) x) (insert set (s .cpu .next)) set) 0 (s .jumpers)) 0 0) 1 ≡ true =
-    ap (λ (v : ℕ). member v 1) new ∙ joins ∙ simp old in
+    let joins = join-all (s .cpu .n) (s .jumpers) (s .cpu .next) (omega arith) (omega arith) 1 0 (setJ s) empty empty (λ z. clash l z) in
+    let y : member (getD (joined (s .cpu .n) (setJ s) (s .cpu .next) (s .jumpers)) 0 empty) 1 ≡ true = (simp l at joins) ∙ simp old in
     simp (e, l, y, or-true)
 
 isolated-pc : (s : State) → isolated (at-isolate s) .cpu .pc ≡ reg (s .cpu .regs) 15

@@ -1,13 +1,13 @@
 -- When a tagged state and one of the abstract machine match, and what is kept of a tagged state.
 use mathlib.Core.Path.{_≡_}
-use mathlib.Core.Bool.{false}
+use mathlib.Core.Bool.{true, false}
 use mathlib.Core.List.{List}
-use Prim.Native.Nat.{ℕ, _≤_, _<_}
+use Prim.Native.Nat.{ℕ, _<_}
 use lib.ListN.{getD, length, take}
 use Rattle.common.specs.Services.{serviceCount, isServiceNumber}
 use Rattle.paper.specs.Abstract as paper
-use Rattle.rules.specs.Compartments.{numbers}
-use Rattle.rules.specs.State.{State, firstNumber, inMemory, owns, mayJump, mayStore}
+use Rattle.rules.specs.State.{State, inMemory, owns, mayJump, mayStore}
+use Rattle.rules.specs.Checks.{formed}
 
 -- "They match when A is what the number owns, J the addresses whose I has it, S those whose W has it": for every
 -- number c, also one that is not used, and every address x, also a service's or one outside all
@@ -22,18 +22,10 @@ pub record Match (s : State) (a : paper.State) : Type 0 where
   pub J : (c x : ℕ) → paper.J-of a c x ≡ mayJump s c x
   pub S : (c x : ℕ) → paper.S-of a c x ≡ mayStore s c x
 
--- what a step keeps of a tagged state: its form, which 14 asks for, and good owners, which 15 asks for
+-- what a step keeps of a tagged state: its form, which 14 asks for, three service sets, and good owners, which 15 asks for
 pub record Inv (s : State) : Type 0 where
-  pub owners : length (s .owners) ≡ length (s .words)
-  pub jumpers : length (s .jumpers) ≡ length (s .words)
-  pub writers : length (s .writers) ≡ length (s .words)
-  pub some : 1 ≤ s .cpu .n
-  pub most : s .cpu .n ≤ 2048
-  pub lent : s .cpu .n ≤ length (s .words)
+  pub formed : formed s ≡ true
   pub sets : length (s .cpu .services) ≡ serviceCount
-  pub low : firstNumber ≤ s .cpu .next
-  pub high : s .cpu .next ≤ numbers
-  pub prev : s .cpu .prev < s .cpu .next
   pub caller : inMemory s (s .cpu .pc) ≡ false → isServiceNumber (s .cpu .prev) ≡ false
   pub owner : (x : ℕ) → x < s .cpu .n → (isServiceNumber (getD (s .owners) x 0) ≡ false) × (getD (s .owners) x 0 < s .cpu .next)
 

@@ -6,16 +6,14 @@ use mathlib.Core.Logic.{_↔_}
 use Prim.Native.Nat.{ℕ, zero, suc, _+_, _-_, _*_, _≤_, _<_}
 use native.Mathlib.Omega.{arith}
 use native.Mathlib.Decide.{ℕ-discrete}
-use borrow.Author.Tests.{ltb-true, leb-true, le-leb, lt-ltb}
-use lib.Dec.{ltb, leb}
+use borrow.Author.Tests.{ltb-true, le-leb, lt-ltb}
+use lib.Dec.{ltb}
 use lib.ListN.{getD}
 use Rattle.common.specs.Tests.{both, clash}
-use Rattle.common.specs.AddressSets.{Pair, pairsAt, setAt, ordered, isEmpty, inPair, inSet, allFrom, within}
+use Rattle.common.specs.AddressSetLaws.{in-pair, within-at}
+use Rattle.common.specs.AddressSets.{Pair, pairsAt, setAt, ordered, isEmpty, inSet, allFrom, within}
 
 -- ---- one pair, and the pairs after it
-
-in-pair : (p : Pair) (x : ℕ) → inPair p x ≡ true → (p .first ≤ x) × (x < p .past)
-in-pair p x h = let v = both (leb (p .first) x) (ltb x (p .past)) h in (leb-true _ _ (v .0), ltb-true _ _ (v .1))
 
 in-first : (p : Pair) (ps : List Pair) (x : ℕ) → p .first ≤ x → x < p .past → inSet (p ∷ ps) x ≡ true
 unfolding inSet
@@ -67,16 +65,6 @@ in-set-iff words q x = (among-pairs words (q + 1) (getD words q 0) x, pairs-amon
 
 -- ---- within
 
-all-at : (test : ℕ → Bool) (k x y : ℕ) → allFrom test x k ≡ true → x ≤ y → y < x + k → test y ≡ true
-unfolding allFrom
-all-at test zero x y h l u = absurd (omega arith)
-all-at test (suc k) x y h l u = go (ℕ-discrete x y) (both (test x) (allFrom test (suc x) k) h) (all-at test k (suc x) y)
-  where
-    go : Dec (x ≡ y) → (test x ≡ true) × (allFrom test (suc x) k ≡ true) → (allFrom test (suc x) k ≡ true → suc x ≤ y → y < suc x + k → test y ≡ true)
-        → test y ≡ true
-    go (yes e) w ih = subst (λ (z : ℕ). test z ≡ true) e (w .0)
-    go (no e) w ih = ih (w .1) (omega arith) (omega arith)
-
 at-all : (test : ℕ → Bool) (k x : ℕ) → ((y : ℕ) → x ≤ y → y < x + k → test y ≡ true) → allFrom test x k ≡ true
 unfolding allFrom
 at-all test zero x h = refl
@@ -84,20 +72,6 @@ at-all test (suc k) x h =
     let a : test x ≡ true = h x (omega arith) (omega arith) in
     let b : allFrom test (suc x) k ≡ true = at-all test k (suc x) (λ y l u. h y (omega arith) (omega arith)) in
     simp (a, b)
-
-pub within-at : (ps : List Pair) (test : ℕ → Bool) (x : ℕ) → within ps test ≡ true → inSet ps x ≡ true → test x ≡ true
-unfolding within inSet
-within-at [] test x h e = clash e refl
-within-at (p ∷ ps) test x h e = go (inSet ps x) refl (both (within ps test) (allFrom test (p .first) (p .past - p .first)) h) (within-at ps test x)
-  where
-    go : (b : Bool) → inSet ps x ≡ b → (within ps test ≡ true) × (allFrom test (p .first) (p .past - p .first) ≡ true)
-        → (within ps test ≡ true → inSet ps x ≡ true → test x ≡ true) → test x ≡ true
-    go true g w ih = ih (w .0) g
-    go false g w ih =
-        let r = in-pair p x (simp g at e) in
-        let l : p .first ≤ x = r .0 in
-        let u : x < p .past = r .1 in
-        all-at test (p .past - p .first) (p .first) x (w .1) l (omega arith)
 
 at-within : (ps : List Pair) (test : ℕ → Bool) → ((x : ℕ) → inSet ps x ≡ true → test x ≡ true) → within ps test ≡ true
 unfolding within

@@ -10,10 +10,11 @@ use Rattle.common.specs.Answers as answer
 use Rattle.common.specs.Opcodes as is
 use Rattle.common.specs.Instructions.{reg}
 use Rattle.common.specs.Services.{isolate, add-jump-target, add-store-target, serviceCount, isService}
+use Rattle.common.specs.ServiceLaws.{service-range}
 use Rattle.rules.specs.State.{State, firstNumber, inMemory, hasOwner, ownerAt, writersAt, owns, mayJump, mayStore}
 use Rattle.rules.specs.Checks.{sameLengths, sized, numbered, seated, formed, badOwner, arrives, instructionAt, storeVerdict, instructionVerdict, wordVerdict, goodSets, setsWithin, returns, isolateVerdict, addVerdict, serviceVerdict, verdict}
 use Rattle.rules.specs.Step.{step}
-use Rattle.rules.specs.FormLaws.{n-most, service-range, at-service}
+use Rattle.rules.specs.FormLaws.{n-most, at-service}
 use Rattle.rules.specs.StepLaws.{answer-is}
 use Rattle.rules.specs.Cascades.{firstOf, Exactly, NoneHolds, nonzero, on-its-condition, done-otherwise, cond-not, not-and, not-or, not-leb}
 use Rattle.rules.specs.Conditions as of
@@ -84,14 +85,13 @@ word-place s f h =
 
 -- a service that is not isolate is one of the other two
 other-service : (x : ℕ) → isService x ≡ true → eqb x isolate ≡ false → (eqb x add-jump-target || eqb x add-store-target) ≡ true
+unfolding serviceCount
 other-service x h n = go (eqb x add-jump-target) refl
   where
     go : (b : Bool) → eqb x add-jump-target ≡ b → (eqb x add-jump-target || eqb x add-store-target) ≡ true
     go true e = simp e
     go false e =
-        let r = service-range x h in
-        let l : 4096 ≤ x = r .0 in
-        let u : x < 4099 = r .1 in
+        let r : (4096 ≤ x) × (x < 4099) = service-range x h in
         let a = eqb-false x isolate n in
         let b = eqb-false x add-jump-target e in
         simp (e, eq-eqb x add-store-target (omega arith))
@@ -143,7 +143,7 @@ verdict-first s = go (formed s) (hasOwner s (s .cpu .pc)) (isWord s) refl refl r
     go : (a b e : Bool) → formed s ≡ a → hasOwner s (s .cpu .pc) ≡ b → isWord s ≡ e → verdict s ≡ firstOf (checks s)
     go false b e p q u = simp (form-row, p)
     go true false e p q u = simp (form-row, place-row, p, q)
-    go true true false p q u = service p q u (at-service s q u) (atIsolate s) refl
+    go true true false p q u = service p q u (at-service s (s .cpu .pc) q u) (atIsolate s) refl
     go true true true p q u =
         word p q u (eqb (instructionHere s .answer) answer.done) (eqb (instructionHere s .op) is.load) (eqb (instructionHere s .op) is.store) refl refl refl
 

@@ -12,13 +12,15 @@ use Rattle.common.specs.Answers as answer
 use Rattle.common.specs.Opcodes as is
 use Rattle.common.specs.Words.{Decoded}
 use Rattle.common.specs.Instructions.{reg, wordsAfter}
+use Rattle.common.specs.InstructionLaws.{words-length}
 use Rattle.common.specs.AddressSets.{Pair}
 use Rattle.rules.specs.State.{State, inMemory}
 use Rattle.rules.specs.Checks.{sameLengths, sized, target, wordVerdict}
 use Rattle.rules.specs.Step.{ranInstruction, owned, joined, joinAt, isolated, jumpAdded, storeAdded, step}
 use Rattle.rules.specs.Run.{run}
 use Rattle.rules.specs.FormLaws.{Lent}
-use Rattle.rules.specs.StepLaws.{store-inside, step-cases, run-keeps}
+use Rattle.rules.specs.Passed.{store-passed}
+use Rattle.rules.specs.StepLaws.{step-cases, run-keeps}
 use Rattle.rules.specs.Grows.{SameSizes, same-sizes, same-sizes-then, step-same-sizes, run-same-sizes}
 use Rattle.rules.specs.TagLaws.{length-map, drop-map}
 
@@ -36,15 +38,11 @@ untouched-then n a b c u v = record { rest = v .rest ∙ u .rest; same-length = 
 
 words-rest : (s : State) (c : ℕ) (i : Decoded) → wordVerdict s c i ≡ answer.done → Untouched (s .cpu .n) (s .words) (wordsAfter i (s .cpu .regs) (s .words))
 unfolding wordsAfter inMemory
-words-rest s c i v = go (eqb (i .op) is.store) refl
+words-rest s c i v = record { rest = go (eqb (i .op) is.store) refl; same-length = words-length i (s .cpu .regs) (s .words) }
   where
-    go : (b : Bool) → eqb (i .op) is.store ≡ b → Untouched (s .cpu .n) (s .words) (wordsAfter i (s .cpu .regs) (s .words))
-    go true e =
-        record {
-          rest = simp e (drop-set-lt (s .cpu .n) (s .words) (target s i) (reg (s .cpu .regs) (i .b)) (ltb-true _ _ (store-inside s c i v e)));
-          same-length = simp (e, length-set);
-        }
-    go false e = simp e (untouched (s .cpu .n) (s .words))
+    go : (b : Bool) → eqb (i .op) is.store ≡ b → drop (s .cpu .n) (wordsAfter i (s .cpu .regs) (s .words)) ≡ drop (s .cpu .n) (s .words)
+    go true e = simp e (drop-set-lt (s .cpu .n) (s .words) (target s i) (reg (s .cpu .regs) (i .b)) (ltb-true _ _ (store-passed s c i v e .inside)))
+    go false e = simp e
 
 owned-rest : (n : ℕ) (ps : List Pair) (c : ℕ) (l : List ℕ) → Untouched n l (owned n ps c l)
 unfolding owned

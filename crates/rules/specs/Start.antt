@@ -6,20 +6,22 @@ use Prim.Native.Nat.{ℕ, zero, suc, _+_, _-_, _≤_, _<_}
 use native.Mathlib.Omega.{arith}
 use borrow.Author.Tests.{ltb-true, leb-true, eqb-true, le-leb, lt-ltb, le-ltb, eq-eqb, ne-eqb}
 use lib.Dec.{ltb, leb, eqb}
-use lib.ListN.{getD, length, drop, replicate, length-append, length-drop, length-replicate, getD-replicate, List·getD-append}
+use lib.ListN.{getD, length, drop, replicate, length-append, length-drop, length-replicate, getD-replicate}
 use lib.Seq.{take-append-seam}
 use Rattle.common.specs.Answers as answer
 use Rattle.common.specs.Services.{isolate, serviceCount, isService, serviceAt, isServiceNumber}
-use Rattle.common.specs.ServiceLaws.{service-range}
+use Rattle.common.specs.ServiceLaws.{service-range, no-service}
 use Rattle.common.specs.Tests.{both, bool-ext}
-use Rattle.common.specs.CheckLaws.{took}
+use Rattle.common.specs.CheckLaws.{needs, eqb-cond, cond-same}
 use Rattle.paper.specs.Abstract as paper
 use Rattle.paper.specs.CompLaws.{service-comps, at-service}
 use Rattle.rules.specs.Compartments.{member, empty, services, main}
 use Rattle.rules.specs.CompartmentLaws.{member-empty, member-services, member-main}
 use Rattle.rules.specs.State.{State, firstNumber, inMemory, hasOwner, ownerAt, jumpersAt, writersAt, owns, mayJump, mayStore}
-use Rattle.rules.specs.Checks.{sameLengths}
-use Rattle.rules.specs.Images.{field, fields, whole, sizeIn, registersIn, entryIn, entryAt, registersAt, entryVerdict, lastListed, registersVerdict, imageVerdict, wordsOf, regsOf, over, loaded, loadVerdict, load}
+use Rattle.rules.specs.Checks.{sameLengths, seated, formed}
+use Rattle.rules.specs.Images.{fields, sizeIn, entryIn, entryVerdict, registersVerdict, imageVerdict, wordsOf, regsOf, over, loaded, loadVerdict, load}
+use Rattle.rules.specs.FormLaws.{Sized, same-lengths, sized-is, Numbered, numbered-is}
+use Rattle.rules.specs.TagLaws.{filled}
 use Rattle.rules.specs.Match.{Match, Inv}
 
 -- ---- what a loader's 0 says
@@ -43,33 +45,19 @@ words-are bytes = fields-length bytes (sizeIn bytes) 4
 
 module _ (bytes : List ℕ) (old : State) (ok : load bytes old .answer ≡ answer.done) where
   pub accepted : Accepted (wordsOf bytes) (entryIn bytes) old
-  unfolding load loadVerdict imageVerdict registersVerdict entryVerdict sameLengths
+  unfolding load loadVerdict imageVerdict registersVerdict entryVerdict
   accepted =
-      let a = took (sameLengths old) _ 26 ok in
-      let b = took (whole bytes 0 1) _ 19 (a .1) in
-      let c = took (leb 1 (sizeIn bytes) && leb (sizeIn bytes) 2048) _ 20 (b .1) in
-      let d = took (leb (sizeIn bytes) (length (old .words))) _ 27 (c .1) in
-      let e = took (whole bytes 4 (sizeIn bytes)) _ 19 (d .1) in
-      let f = took (whole bytes (registersAt bytes) 1) _ 19 (e .1) in
-      let g = took (leb (registersIn bytes) 16) _ 21 (f .1) in
-      let h = took (whole bytes (registersAt bytes + 4) (registersIn bytes)) _ 19 (g .1) in
-      let i = took (lastListed bytes) _ 22 (h .1) in
-      let j = took (whole bytes (entryAt bytes) 1) _ 19 (i .1) in
-      let k = took (eqb (field bytes (entryAt bytes)) 1) _ 23 (j .1) in
-      let l = took (whole bytes (entryAt bytes) 2) _ 19 (k .1) in
-      let m = took (ltb (entryIn bytes) (sizeIn bytes)) _ 24 (l .1) in
       let n : length (wordsOf bytes) ≡ sizeIn bytes = words-are bytes in
-      let sizes = both _ _ (c .0) in
-      let lengths = both _ _ (a .0) in
-      let two = both _ _ (lengths .0) in
+      let lengths = same-lengths old (needs (sameLengths old) (loadVerdict bytes old) (λ e. simp e) ok) in
+      let sizes = both _ _ (needs (leb 1 (sizeIn bytes) && leb (sizeIn bytes) 2048) (loadVerdict bytes old) (λ e. simp (e, eqb-cond, cond-same)) ok) in
       record {
         some = rw n (leb-true _ _ (sizes .0));
         most = rw n (leb-true _ _ (sizes .1));
-        entered = rw n (ltb-true _ _ (m .0));
-        lent = rw n (leb-true _ _ (d .0));
-        owners = eqb-true _ _ (two .0);
-        jumpers = eqb-true _ _ (two .1);
-        writers = eqb-true _ _ (lengths .1);
+        entered = rw n (ltb-true _ _ (needs (ltb (entryIn bytes) (sizeIn bytes)) (loadVerdict bytes old) (λ e. simp (e, eqb-cond, cond-same)) ok));
+        lent = rw n (leb-true _ _ (needs (leb (sizeIn bytes) (length (old .words))) (loadVerdict bytes old) (λ e. simp (e, eqb-cond, cond-same)) ok));
+        owners = lengths .0;
+        jumpers = lengths .1;
+        writers = lengths .2;
       }
 
   pub loads : load bytes old .state ≡ loaded (wordsOf bytes) (regsOf bytes) (entryIn bytes) old
@@ -77,10 +65,6 @@ module _ (bytes : List ℕ) (old : State) (ok : load bytes old .answer ≡ answe
   loads = simp (eq-eqb _ _ ok)
 
 -- ---- memories filled by the loader
-
-filled : (n v : ℕ) (old : List ℕ) (x : ℕ) → x < n → getD (over (replicate n v) old) x 0 ≡ v
-filled n v old x h =
-    List·getD-append (replicate n v) (drop (length (replicate n v)) old) 0 x (rw length-replicate h) ∙ getD-replicate n x v 0 h
 
 over-length : (front old : List ℕ) → length front ≤ length old → length (over front old) ≡ length old
 over-length front old h = length-append front (drop (length front) old) ∙ simp length-drop (omega arith)
@@ -138,15 +122,8 @@ module _ (words regs : List ℕ) (entry : ℕ) (old : State) (ok : Accepted word
   abbrev n : ℕ
   n = length words
 
-  no-service : (x : ℕ) → x < n → isService x ≡ false
-  no-service x h = go (isService x) refl
-    where
-      go : (b : Bool) → isService x ≡ b → isService x ≡ false
-      go false e = e
-      go true e =
-          let m : n ≤ 2048 = ok .most in
-          let r : (isolate ≤ x) × (x < isolate + serviceCount) = service-range x e in
-          absurd (omega arith)
+  word-plain : (x : ℕ) → x < n → isService x ≡ false
+  word-plain x h = let m : n ≤ 2048 = ok .most in no-service x (omega arith)
 
   start-A : (c x : ℕ) → paper.comp (paper.initialComps n) c .A x ≡ owns start c x
   unfolding paper.initialComps owns hasOwner ownerAt inMemory loaded
@@ -169,7 +146,7 @@ module _ (words regs : List ℕ) (entry : ℕ) (old : State) (ok : Accepted word
     where
       go : (b p : Bool) → ltb x n ≡ b → isService x ≡ p → (c : ℕ) → paper.comp (paper.initialComps n) c .J x ≡ mayJump start c x
       go true p e f zero =
-          simp (e, no-service x (ltb-true _ _ e), filled n services (old .jumpers) x (ltb-true _ _ e), member-services)
+          simp (e, word-plain x (ltb-true _ _ e), filled n services (old .jumpers) x (ltb-true _ _ e), member-services)
       go true p e f (suc j) =
           at-service n j (λ k. k .J x) refl
           ∙ simp (e, and-true, filled n services (old .jumpers) x (ltb-true _ _ e)) (sym (services-are j))
@@ -206,26 +183,35 @@ module _ (words regs : List ℕ) (entry : ℕ) (old : State) (ok : Accepted word
         S = start-S;
       }
 
-  pub start-inv : Inv start
-  unfolding loaded inMemory isServiceNumber firstNumber serviceCount
-  start-inv =
+  start-sized : Sized start
+  unfolding loaded
+  start-sized =
       let h : n ≤ length (old .words) = ok .lent in
-      let o : length (old .owners) ≡ length (old .words) = ok .owners in
-      let j : length (old .jumpers) ≡ length (old .words) = ok .jumpers in
-      let r : length (old .writers) ≡ length (old .words) = ok .writers in
       let w : length (over words (old .words)) ≡ length (old .words) = over-length words (old .words) h in
+      let all : (v : ℕ) (l : List ℕ) → length l ≡ length (old .words) → length (over (replicate n v) l) ≡ length (over words (old .words)) =
+      λ v l e. filled-length n v l (omega arith) ∙ e ∙ sym w in
       record {
-        owners = filled-length n 0 (old .owners) (omega arith) ∙ o ∙ sym w;
-        jumpers = filled-length n services (old .jumpers) (omega arith) ∙ j ∙ sym w;
-        writers = filled-length n empty (old .writers) (omega arith) ∙ r ∙ sym w;
+        lent =
+            record {
+              owners = all 0 (old .owners) (ok .owners);
+              jumpers = all services (old .jumpers) (ok .jumpers);
+              writers = all empty (old .writers) (ok .writers);
+              enough = omega arith;
+            };
         some = ok .some;
         most = ok .most;
-        lent = omega arith;
+      }
+
+  start-numbered : Numbered start
+  unfolding loaded firstNumber serviceCount
+  start-numbered = record { low = omega arith; high = omega arith; prev = omega arith }
+
+  pub start-inv : Inv start
+  unfolding loaded formed seated inMemory isServiceNumber firstNumber serviceCount
+  start-inv =
+      record {
+        formed = simp (sized-is start start-sized, numbered-is start start-numbered);
         sets = refl;
-        low = omega arith;
-        high = omega arith;
-        prev = omega arith;
         caller = λ z. refl;
-        owner = λ x l. let g : getD (over (replicate n 0) (old .owners)) x 0 ≡ 0 = filled n 0 (old .owners) x l in
-            (ap isServiceNumber g, omega arith);
+        owner = λ x l. let g : getD (over (replicate n 0) (old .owners)) x 0 ≡ 0 = filled n 0 (old .owners) x l in (ap isServiceNumber g, omega arith);
       }

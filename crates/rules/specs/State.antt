@@ -16,7 +16,7 @@ pub record Processor : Type 0 where
   pub pc : ℕ
   -- the pc number: the compartment that ran last
   pub prev : ℕ
-  -- the flag: the last instruction was a Jump or a Jal
+  -- the flag: the last step was a Jump, a Jal or a service
   pub jumped : Bool
   -- the first unused compartment number
   pub next : ℕ

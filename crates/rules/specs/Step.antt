@@ -7,7 +7,7 @@ use lib.ListN.{getD, set}
 use Rattle.common.specs.Answers as answer
 use Rattle.common.specs.Words.{Decoded}
 use Rattle.common.specs.Instructions.{reg, pcAfter, regsAfter, wordsAfter, jumps}
-use Rattle.common.specs.Services.{isolate, add-jump-target, add-store-target, serviceAt}
+use Rattle.common.specs.Services.{isolate, add-jump-target, serviceAt}
 use Rattle.common.specs.AddressSets.{Pair, inSet}
 use Rattle.rules.specs.Compartments.{insert, empty}
 use Rattle.rules.specs.State.{Processor, State, inMemory, ownerAt}

@@ -2,57 +2,30 @@
 use mathlib.Core.Path.{_≡_, refl, sym, ap, _∙_, subst, fun-ext}
 use mathlib.Core.Bool.{Bool, true, false, cond, _&&_, and-false}
 use mathlib.Core.List.{List}
-use Prim.Native.Nat.{ℕ, suc, _+_, _≤_, _<_}
+use Prim.Native.Nat.{ℕ, _≤_, _<_}
 use native.Mathlib.Omega.{arith}
-use borrow.Author.Tests.{ltb-true, le-leb, lt-leb, lt-ltb, le-ltb, eq-eqb, ne-eqb}
+use borrow.Author.Tests.{ltb-true, lt-leb, lt-ltb, ne-eqb}
 use lib.Dec.{ltb, eqb}
 use lib.ListN.{getD, length, take}
 use lib.Seq.{getD-take, length-take-le}
 use Rattle.common.specs.Answers as answer
 use Rattle.common.specs.Words.{Decoded, decode}
-use Rattle.common.specs.Services.{isolate, serviceCount, isService, serviceAt, isServiceNumber}
-use Rattle.common.specs.ServiceLaws.{service-range, service-small}
+use Rattle.common.specs.Services.{isolate, isService, serviceAt}
 use Rattle.common.specs.AddressSets.{isEmpty}
 use Rattle.common.specs.AddressSetLaws.{good-take, good-set-take}
 use Rattle.common.specs.Tests.{both}
 use Rattle.paper.specs.Abstract as paper
 use Rattle.paper.specs.CompLaws.{holder-is}
 use Rattle.rules.specs.Compartments.{numbers}
-use Rattle.rules.specs.State.{State, firstNumber, inMemory, hasOwner, ownerAt, owns}
-use Rattle.rules.specs.Checks.{sameLengths, sized, numbered, seated, formed, badOwner, arrives, instructionAt, storeVerdict, instructionVerdict, wordVerdict, setA, setJ, setS, goodSets, setsWithin, returns, isolateVerdict, addVerdict, serviceVerdict, verdict}
+use Rattle.rules.specs.State.{State, inMemory, hasOwner, ownerAt, owns}
+use Rattle.rules.specs.Checks.{badOwner, arrives, instructionAt, storeVerdict, instructionVerdict, wordVerdict, setA, setJ, setS, goodSets, setsWithin, returns, isolateVerdict, addVerdict, serviceVerdict, verdict}
+use Rattle.rules.specs.FormLaws.{lent-memories, n-most, service-below, at-service}
 use Rattle.rules.specs.Match.{Match, Inv, shadow}
 
--- ---- what Inv keeps answers neither 14 nor 15
+-- ---- what Inv keeps answers no 15, and gives every address an owner that is used
 
 module _ (s : State) (inv : Inv s) where
-  no-service-calls : (isServiceNumber (s .cpu .prev) && isService (s .cpu .pc)) ≡ false
-  unfolding inMemory
-  no-service-calls = go (isService (s .cpu .pc)) refl
-    where
-      go : (b : Bool) → isService (s .cpu .pc) ≡ b → (isServiceNumber (s .cpu .prev) && isService (s .cpu .pc)) ≡ false
-      go true e =
-          let r : (isolate ≤ s .cpu .pc) × (s .cpu .pc < isolate + serviceCount) = service-range (s .cpu .pc) e in
-          let k : s .cpu .n ≤ 2048 = inv .most in
-          simp (inv .caller (le-ltb (s .cpu .pc) (s .cpu .n) (omega arith)))
-      go false e = simp (e, and-false)
-
-  pub formed-is : formed s ≡ true
-  unfolding sameLengths sized numbered seated formed
-  formed-is =
-      simp (
-        eq-eqb _ _ (inv .owners),
-        eq-eqb _ _ (inv .jumpers),
-        eq-eqb _ _ (inv .writers),
-        le-leb _ _ (inv .some),
-        le-leb _ _ (inv .most),
-        le-leb _ _ (inv .lent),
-        le-leb _ _ (inv .low),
-        le-leb _ _ (inv .high),
-        lt-ltb _ _ (inv .prev),
-        no-service-calls,
-      )
-
-  pub owner-good : badOwner s ≡ false
+  owner-good : badOwner s ≡ false
   unfolding badOwner ownerAt inMemory
   owner-good = go (inMemory s (s .cpu .pc)) refl
     where
@@ -63,16 +36,12 @@ module _ (s : State) (inv : Inv s) where
       go false e = simp e
 
   pub owner-low : (x : ℕ) → hasOwner s x ≡ true → ownerAt s x < s .cpu .next
-  unfolding hasOwner ownerAt inMemory firstNumber
+  unfolding ownerAt inMemory
   owner-low x h = go (inMemory s x) refl
     where
       go : (b : Bool) → inMemory s x ≡ b → cond b (getD (s .owners) x 0) (serviceAt x) < s .cpu .next
       go true e = inv .owner x (ltb-true _ _ e) .1
-      go false e =
-          let v : isService x ≡ true = simp e at h in
-          let l : serviceAt x ≤ serviceCount = service-small x v in
-          let k : suc serviceCount ≤ s .cpu .next = inv .low in
-          omega arith
+      go false e = service-below s (inv .formed) x (at-service s x h e)
 
 -- ---- what the tagged machine answers where the abstract one answers v
 
@@ -100,7 +69,7 @@ module _ (s : State) (C : List paper.Comp) (m : Match s (shadow s C)) (inv : Inv
   a = shadow s C
 
   length-is : length (take (s .cpu .n) (s .words)) ≡ s .cpu .n
-  length-is = length-take-le (s .cpu .n) (s .words) (inv .lent)
+  length-is = length-take-le (s .cpu .n) (s .words) (lent-memories s (inv .formed) .enough)
 
   pub memory-is : (x : ℕ) → paper.inMemory a x ≡ inMemory s x
   unfolding paper.inMemory inMemory
@@ -181,25 +150,25 @@ module _ (s : State) (C : List paper.Comp) (m : Match s (shadow s C)) (inv : Inv
           let k : paper.inMemory a (s .cpu .pc) ≡ true = memory-is (s .cpu .pc) ∙ e in
           let h : hasOwner s (s .cpu .pc) ≡ true = simp e in
           let l : s .cpu .pc < s .cpu .n = ltb-true _ _ e in
-          let u : s .cpu .n ≤ 2048 = inv .most in
+          let u : s .cpu .n ≤ 2048 = n-most s (inv .formed) in
           let ne : eqb (s .cpu .pc) isolate ≡ false = ne-eqb (s .cpu .pc) isolate (λ q. omega arith) in
-          simp (formed-is s inv, owner-good s inv, k, e, arrives-is h, g, current-is h, word-is e, instruction-is, ne)
+          simp (inv .formed, owner-good s inv, k, e, arrives-is h, g, current-is h, word-is e, instruction-is, ne)
           (sym (parted-none (wordVerdict s (ownerAt s (s .cpu .pc)) (instructionAt s))))
 
       go : (b c d : Bool) → inMemory s (s .cpu .pc) ≡ b → isService (s .cpu .pc) ≡ c → arrives s ≡ d → verdict s ≡ parted (last s) (paper.verdict a)
       go true c false e f g =
           let k : paper.inMemory a (s .cpu .pc) ≡ true = memory-is (s .cpu .pc) ∙ e in
           let h : hasOwner s (s .cpu .pc) ≡ true = simp e in
-          simp (formed-is s inv, owner-good s inv, k, e, arrives-is h, g)
+          simp (inv .formed, owner-good s inv, k, e, arrives-is h, g)
       go true c true e f g = there e g
       go false true false e f g =
           let k : paper.inMemory a (s .cpu .pc) ≡ false = memory-is (s .cpu .pc) ∙ e in
           let h : hasOwner s (s .cpu .pc) ≡ true = simp (e, f) in
-          simp (formed-is s inv, owner-good s inv, k, e, f, arrives-is h, g)
+          simp (inv .formed, owner-good s inv, k, e, f, arrives-is h, g)
       go false true true e f g =
           let k : paper.inMemory a (s .cpu .pc) ≡ false = memory-is (s .cpu .pc) ∙ e in
           let h : hasOwner s (s .cpu .pc) ≡ true = simp (e, f) in
-          simp (formed-is s inv, owner-good s inv, k, e, f, arrives-is h, g) (service-is (s .cpu .prev))
+          simp (inv .formed, owner-good s inv, k, e, f, arrives-is h, g) (service-is (s .cpu .prev))
       go false false d e f g =
           let k : paper.inMemory a (s .cpu .pc) ≡ false = memory-is (s .cpu .pc) ∙ e in
-          simp (formed-is s inv, k, e, f)
+          simp (inv .formed, k, e, f)

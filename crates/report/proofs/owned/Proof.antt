@@ -1,0 +1,21 @@
+-- The places and the services are the rules' count, which fits.
+use native.Mathlib.Omega.{arith}
+use borrow.Author.Needs.{needs}
+use Rattle.report.specs.CountLaws.{counts-fit, owned-is}
+use Rattle.report.proofs.owned.Statement.{statement}
+use Rattle.report.proofs.owned.Tie as tie
+
+places-owned-requires : tie.Need-places-owned-requires
+places-owned-requires c κs = search needs
+
+services-requires : tie.Need-services-requires
+services-requires c κs = search needs
+
+add-result : tie.Need-add-result
+add-result c = omega (arith, counts-fit _ _ _ _ _ _ _ _ (c .before .places-owned .ensures) (c .services .ensures) (search needs))
+
+returns : tie.Need-returns
+returns c = owned-is _ _ _ _ (c .before .places-owned .ensures) (c .services .ensures)
+
+pub owned-spec : {M : Type 1} → statement M
+owned-spec = tie.close (tie.spec places-owned-requires services-requires add-result returns)

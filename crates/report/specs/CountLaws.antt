@@ -1,0 +1,173 @@
+-- The counts in the forms in which the code comes to them: the places of one list, and the three services.
+use mathlib.Core.Path.{_≡_, refl, sym, ap, ap₂, _∙_}
+use mathlib.Core.Bool.{Bool, true, false, _&&_, not}
+use mathlib.Core.List.{List}
+use Prim.Native.Nat.{ℕ, zero, suc, _+_, _-_, _≤_, _<_, min, max}
+use native.Mathlib.Omega.{arith}
+use native.Mathlib.Nat.{zero-add, add-zero}
+use native.Mathlib.Numerals.{add-one}
+use borrow.Author.Tests.{lt-ltb, ltb-false, eqb-true, eq-eqb}
+use lib.Dec.{ltb, eqb}
+use lib.ListN.{getD, length}
+use Rattle.common.specs.Tests.{bool-ext}
+use Rattle.common.specs.Instructions.{bit}
+use Rattle.common.specs.Services.{isolate, serviceCount, isService, serviceAt}
+use Rattle.rules.specs.Compartments.{member, size}
+use Rattle.rules.specs.CompartmentLaws.{member-empty}
+use Rattle.rules.specs.State.{State, inMemory, hasOwner, ownerAt, jumpersAt, writersAt, owns, mayJump, mayStore}
+use Rattle.rules.specs.Counts.{countFrom, addressCount, ownedCount, jumpCount, storeCount, mostOnes}
+
+-- ---- a count, address by address
+
+bit-most : (b : Bool) → bit b ≤ 1
+bit-most true = omega arith
+bit-most false = omega arith
+
+module _ (test : ℕ → Bool) where
+  pub count-none : 0 ≡ countFrom test 0 0
+  unfolding countFrom
+  count-none = refl
+
+  pub count-more : (k : ℕ) → countFrom test 0 (k + 1) ≡ countFrom test 0 k + bit (test k)
+  unfolding countFrom
+  count-more k = ap (countFrom test 0) (add-one k) ∙ ap (λ (x : ℕ). countFrom test 0 k + bit (test x)) (zero-add k)
+
+  pub count-most : (k : ℕ) → countFrom test 0 k ≤ k
+  unfolding countFrom
+  count-most zero = omega arith
+  count-most (suc k) = let h = count-most k in let b = bit-most (test (0 + k)) in omega arith
+
+-- two tests that agree on the way
+pub count-same : (t u : ℕ → Bool) (x k : ℕ) → ((y : ℕ) → x ≤ y → y < x + k → t y ≡ u y) → countFrom t x k ≡ countFrom u x k
+unfolding countFrom
+count-same t u x zero h = refl
+count-same t u x (suc k) h =
+    ap₂ (λ (m : ℕ) (b : Bool). m + bit b) (count-same t u x k (λ y l m. h y l (omega arith))) (h (x + k) (omega arith) (omega arith))
+
+-- ---- the places of one list
+
+abbrev pub placesOwned : List ℕ → ℕ → ℕ → ℕ
+placesOwned owners n c = countFrom (λ x. eqb (getD owners x 0) c) 0 (min n (length owners))
+
+abbrev pub placesWith : List ℕ → ℕ → ℕ → ℕ
+placesWith sets n c = countFrom (λ x. member (getD sets x 0) c) 0 (min n (length sets))
+
+module _ (s : State) (c : ℕ) where
+  places-owned : placesOwned (s .owners) (s .cpu .n) c ≡ countFrom (owns s c) 0 (min (s .cpu .n) (length (s .owners)))
+  unfolding owns hasOwner ownerAt inMemory
+  places-owned = count-same _ (owns s c) 0 (min (s .cpu .n) (length (s .owners))) (λ x l h. simp (lt-ltb x (s .cpu .n) (omega arith)))
+
+  places-jump : placesWith (s .jumpers) (s .cpu .n) c ≡ countFrom (mayJump s c) 0 (min (s .cpu .n) (length (s .jumpers)))
+  unfolding mayJump jumpersAt inMemory
+  places-jump = count-same _ (mayJump s c) 0 (min (s .cpu .n) (length (s .jumpers))) (λ x l h. simp (lt-ltb x (s .cpu .n) (omega arith)))
+
+  places-store : placesWith (s .writers) (s .cpu .n) c ≡ countFrom (mayStore s c) 0 (min (s .cpu .n) (length (s .writers)))
+  unfolding mayStore writersAt inMemory
+  places-store = count-same _ (mayStore s c) 0 (min (s .cpu .n) (length (s .writers))) (λ x l h. simp (lt-ltb x (s .cpu .n) (omega arith)))
+
+-- ---- the three services
+
+-- x has the number, and N does not reach x
+unfoldable pub outside : ℕ → ℕ → Bool → Bool
+outside n x has = not (ltb x n) && has
+
+unfoldable pub three : ℕ → Bool → Bool → Bool → ℕ
+three n a b c = bit (outside n 4096 a) + bit (outside n 4097 b) + bit (outside n 4098 c)
+
+outside-same : (n x : ℕ) (a b : Bool) → (ltb x n ≡ false → a ≡ b) → outside n x a ≡ outside n x b
+unfolding outside
+outside-same n x a b h = go (ltb x n) refl
+  where
+    go : (t : Bool) → ltb x n ≡ t → (not t && a) ≡ (not t && b)
+    go true e = refl
+    go false e = h e
+
+services-count : (s : State) (test : ℕ → Bool) (a b c : Bool)
+    → (inMemory s 4096 ≡ false → a ≡ test 4096) → (inMemory s 4097 ≡ false → b ≡ test 4097) → (inMemory s 4098 ≡ false → c ≡ test 4098)
+    → three (s .cpu .n) a b c ≡ countFrom (λ x. not (inMemory s x) && test x) isolate serviceCount
+unfolding countFrom serviceCount inMemory outside three
+services-count s test a b c f g h =
+    simp (outside-same (s .cpu .n) 4096 a (test 4096) f, outside-same (s .cpu .n) 4097 b (test 4097) g, outside-same (s .cpu .n) 4098 c (test 4098) h, zero-add)
+
+pub service-most : (r n x : ℕ) (has : Bool) → r ≡ bit (outside n x has) → r ≤ 1
+service-most r n x has e = let m = bit-most (outside n x has) in omega arith
+
+-- as many as N leaves outside
+three-most : (n : ℕ) (a b c : Bool) → three n a b c ≤ 4099 - n
+unfolding outside three
+three-most n a b c =
+    let p = one 4096 a in
+    let q = one 4097 b in
+    let r = one 4098 c in
+    sum _ _ _ p q r
+  where
+    one : (x : ℕ) (b : Bool) → bit (outside n x b) ≤ min 1 (suc x - n)
+    one x b = go (ltb x n) refl
+      where
+        go : (t : Bool) → ltb x n ≡ t → bit (not t && b) ≤ min 1 (suc x - n)
+        go true e = omega arith
+        go false e = let l : n ≤ x = ltb-false x n e in let m = bit-most b in omega arith
+
+    sum : (p q r : ℕ) → p ≤ min 1 (4097 - n) → q ≤ min 1 (4098 - n) → r ≤ min 1 (4099 - n) → p + q + r ≤ 4099 - n
+    sum p q r f g h = omega arith
+
+-- places and services together, as the code adds them, are few enough for 32 bits
+pub counts-fit : (p q : ℕ) (test : ℕ → Bool) (n k : ℕ) (a b c : Bool) → p ≡ countFrom test 0 (min n k) → q ≡ three n a b c → n < 4294967296 → p + q < 4294967296
+counts-fit p q test n k a b c e f h =
+    let l = count-most test (min n k) in
+    let m = three-most n a b c in
+    omega arith
+
+-- ---- what the calls come to
+
+eqb-swap : (a b : ℕ) → eqb a b ≡ eqb b a
+eqb-swap a b = bool-ext (eqb a b) (eqb b a) (λ h. eq-eqb b a (sym (eqb-true a b h))) (λ h. eq-eqb a b (sym (eqb-true b a h)))
+
+module _ (s : State) (c : ℕ) where
+  service-owns : (x : ℕ) → isService x ≡ true → inMemory s x ≡ false → eqb c (serviceAt x) ≡ owns s c x
+  unfolding owns hasOwner ownerAt
+  service-owns x e h = eqb-swap c (serviceAt x) ∙ simp (h, e)
+
+  service-jump : (x : ℕ) → isService x ≡ true → inMemory s x ≡ false → member (getD (s .cpu .services) (x - isolate) 0) c ≡ mayJump s c x
+  unfolding mayJump jumpersAt
+  service-jump x e h = simp (h, e)
+
+  service-store : (x : ℕ) → inMemory s x ≡ false → false ≡ mayStore s c x
+  unfolding mayStore writersAt
+  service-store x h = sym (member-empty c) ∙ simp h
+
+  pub owned-is : (p q : ℕ) → p ≡ placesOwned (s .owners) (s .cpu .n) c → q ≡ three (s .cpu .n) (eqb c 1) (eqb c 2) (eqb c 3) → p + q ≡ ownedCount s c
+  unfolding ownedCount addressCount isService serviceAt serviceCount
+  owned-is p q e f =
+      ap₂ (λ (x y : ℕ). x + y) (e ∙ places-owned s c)
+      (f ∙ services-count s (owns s c) (eqb c 1) (eqb c 2) (eqb c 3) (service-owns 4096 refl) (service-owns 4097 refl) (service-owns 4098 refl))
+
+  pub jumps-are : (p q : ℕ) (f g h : Bool) → p ≡ placesWith (s .jumpers) (s .cpu .n) c → f ≡ member (getD (s .cpu .services) 0 0) c
+      → g ≡ member (getD (s .cpu .services) 1 0) c → h ≡ member (getD (s .cpu .services) 2 0) c → q ≡ three (s .cpu .n) f g h → p + q ≡ jumpCount s c
+  unfolding jumpCount addressCount isService serviceCount
+  jumps-are p q f g h e ef eg eh k =
+      ap₂ (λ (x y : ℕ). x + y) (e ∙ places-jump s c)
+      (k ∙ services-count s (mayJump s c) f g h (λ m. ef ∙ service-jump 4096 refl m) (λ m. eg ∙ service-jump 4097 refl m) (λ m. eh ∙ service-jump 4098 refl m))
+
+  pub stores-are : placesWith (s .writers) (s .cpu .n) c ≡ storeCount s c
+  unfolding storeCount addressCount outside three
+  stores-are =
+      places-store s c ∙ sym (add-zero _) ∙ ap (λ (x : ℕ). countFrom (mayStore s c) 0 (min (s .cpu .n) (length (s .writers))) + x) none
+    where
+      nothing : (t : Bool) → (not t && false) ≡ false
+      nothing true = refl
+      nothing false = refl
+
+      none : 0 ≡ countFrom (λ x. not (inMemory s x) && mayStore s c x) isolate serviceCount
+      none =
+          sym (simp nothing) ∙ services-count s (mayStore s c) false false false (service-store 4096) (service-store 4097) (service-store 4098)
+
+-- ---- the most widely writable word
+
+pub ones-none : (sets : List ℕ) → 0 ≡ mostOnes sets 0
+unfolding mostOnes
+ones-none sets = refl
+
+pub ones-more : (sets : List ℕ) (k : ℕ) → mostOnes sets (k + 1) ≡ max (mostOnes sets k) (size (getD sets k 0))
+unfolding mostOnes
+ones-more sets k = ap (mostOnes sets) (add-one k)

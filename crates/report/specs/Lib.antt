@@ -1,0 +1,4 @@
+pub mod CountLaws
+pub mod Meaning
+pub mod Promises
+pub mod SheetRows

@@ -1,0 +1,173 @@
+-- What the counts mean in a state that 14 lets pass: over all addresses, and of the paper's A, J and S.
+use mathlib.Core.Path.{_≡_, refl, sym, ap, ap₂, _∙_}
+use mathlib.Core.Bool.{Bool, true, false, not, _&&_, and-false}
+use mathlib.Core.List.{List}
+use Prim.Native.Nat.{ℕ, zero, suc, _+_, _-_, _≤_, _<_, min, max}
+use native.Mathlib.Omega.{arith}
+use native.Mathlib.Nat.{zero-add, add-zero, add-suc, add-assoc}
+use native.Mathlib.Decide.{ℕ-discrete}
+use borrow.Author.Tests.{le-ltb, lt-leb, ltb-true, ltb-false}
+use lib.Dec.{ltb}
+use lib.ListN.{getD, length}
+use Rattle.common.specs.Instructions.{bit}
+use Rattle.common.specs.Services.{serviceCount, isService}
+use Rattle.paper.specs.Abstract as paper
+use Rattle.rules.specs.Compartments.{size}
+use Rattle.rules.specs.CompartmentLaws.{member-empty}
+use Rattle.rules.specs.State.{State, inMemory, hasOwner, jumpersAt, writersAt, owns, mayJump, mayStore}
+use Rattle.rules.specs.Checks.{sized}
+use Rattle.rules.specs.FormLaws.{is-sized}
+use Rattle.rules.specs.Match.{Match}
+use Rattle.rules.specs.Counts.{countFrom, addressCount, ownedCount, jumpCount, storeCount, mostOnes, widest}
+use Rattle.report.specs.CountLaws.{count-same}
+
+-- the first address past the services
+abbrev pub past : ℕ
+past = 4099
+
+-- ---- a count in two parts, and one in which nothing passes
+
+count-split : (t : ℕ → Bool) (x a b : ℕ) → countFrom t x (a + b) ≡ countFrom t x a + countFrom t (x + a) b
+unfolding countFrom
+count-split t x a zero = ap (countFrom t x) (add-zero a) ∙ sym (add-zero _)
+count-split t x a (suc b) =
+    ap (countFrom t x) (add-suc a b) ∙ ap₂ (λ (m y : ℕ). m + bit (t y)) (count-split t x a b) (sym (add-assoc x a b))
+    ∙ add-assoc (countFrom t x a) (countFrom t (x + a) b) (bit (t (x + a + b)))
+
+count-false : (x k : ℕ) → countFrom (λ _. false) x k ≡ 0
+unfolding countFrom
+count-false x zero = refl
+count-false x (suc k) = ap (λ (m : ℕ). m + 0) (count-false x k)
+
+-- ---- no address is left out
+
+-- only words and services pass the test
+abbrev Held : State → (ℕ → Bool) → Type 0
+Held s test = (x : ℕ) → inMemory s x ≡ false → isService x ≡ false → test x ≡ false
+
+between : (n y : ℕ) → n ≤ y → y < 4096 → (ltb y n ≡ false) × (isService y ≡ false)
+unfolding isService
+between n y l u = (le-ltb y n l, simp (lt-leb 4096 y u))
+
+far : (s : State) (y : ℕ) → s .cpu .n ≤ 2048 → past ≤ y → (inMemory s y ≡ false) × (isService y ≡ false)
+unfolding inMemory isService serviceCount
+far s y m l = (le-ltb y (s .cpu .n) (omega arith), simp (le-ltb y 4099 l, and-false))
+
+module _ (s : State) (list : List ℕ) (test : ℕ → Bool) (held : Held s test) (small : s .cpu .n ≤ 2048) (enough : s .cpu .n ≤ length list) where
+  abbrev n : ℕ
+  n = s .cpu .n
+
+  gap : countFrom test n (4096 - n) ≡ 0
+  unfolding inMemory
+  gap =
+      count-same test (λ _. false) n (4096 - n) (λ y l u. let t = between n y l (omega arith) in held y (t .0) (t .1)) ∙ count-false n (4096 - n)
+
+  front : countFrom test 0 4096 ≡ countFrom test 0 n
+  front =
+      let e : n + (4096 - n) ≡ 4096 = omega arith in
+      ap (countFrom test 0) (sym e) ∙ count-split test 0 n (4096 - n) ∙ ap (λ (x : ℕ). countFrom test 0 n + countFrom test x (4096 - n)) (zero-add n)
+      ∙ ap (λ (x : ℕ). countFrom test 0 n + x) gap ∙ add-zero (countFrom test 0 n)
+
+  back : countFrom (λ x. not (inMemory s x) && test x) 4096 3 ≡ countFrom test 4096 3
+  unfolding inMemory
+  back = count-same (λ x. not (ltb x n) && test x) test 4096 3 (λ y l u. simp (le-ltb y n (omega arith)))
+
+  all-counted : addressCount s list test ≡ countFrom test 0 past
+  unfolding addressCount serviceCount
+  all-counted =
+      let e : min n (length list) ≡ n = omega arith in
+      ap₂ (λ (x y : ℕ). x + y) (ap (countFrom test 0) e ∙ sym front) back ∙ sym (count-split test 0 4096 3)
+
+module _ (s : State) (c : ℕ) where
+  held-owns : Held s (owns s c)
+  unfolding owns hasOwner
+  held-owns x e f = simp (e, f)
+
+  held-jump : Held s (mayJump s c)
+  unfolding mayJump jumpersAt
+  held-jump x e f = simp (e, f) (member-empty c)
+
+  held-store : Held s (mayStore s c)
+  unfolding mayStore writersAt
+  held-store x e f = simp e (member-empty c)
+
+-- each count is how many addresses there are, all those past the services being nobody's
+pub record Counts (s : State) (c : ℕ) : Type 0 where
+  pub owned : ownedCount s c ≡ countFrom (owns s c) 0 past
+  pub jumps : jumpCount s c ≡ countFrom (mayJump s c) 0 past
+  pub stores : storeCount s c ≡ countFrom (mayStore s c) 0 past
+  pub beyond : (x : ℕ) → past ≤ x → (owns s c x ≡ false) × (mayJump s c x ≡ false) × (mayStore s c x ≡ false)
+
+pub counts : (s : State) (c : ℕ) → sized s ≡ true → Counts s c
+unfolding ownedCount jumpCount storeCount
+counts s c h =
+    let z = is-sized s h in
+    let m : s .cpu .n ≤ 2048 = z .most in
+    let l : s .cpu .n ≤ length (s .words) = z .lent .enough in
+    let o : length (s .owners) ≡ length (s .words) = z .lent .owners in
+    let j : length (s .jumpers) ≡ length (s .words) = z .lent .jumpers in
+    let w : length (s .writers) ≡ length (s .words) = z .lent .writers in
+    record {
+      owned = all-counted s (s .owners) (owns s c) (held-owns s c) m (omega arith);
+      jumps = all-counted s (s .jumpers) (mayJump s c) (held-jump s c) m (omega arith);
+      stores = all-counted s (s .writers) (mayStore s c) (held-store s c) m (omega arith);
+      beyond = λ x p. let t = far s x m p in (held-owns s c x (t .0) (t .1), held-jump s c x (t .0) (t .1), held-store s c x (t .0) (t .1));
+    }
+
+-- ---- of the paper's compartments
+
+pub matched : (s : State) (a : paper.State) (c : ℕ) → sized s ≡ true → Match s a
+    → (ownedCount s c ≡ countFrom (paper.A-of a c) 0 past) × (jumpCount s c ≡ countFrom (paper.J-of a c) 0 past) × (storeCount s c ≡ countFrom (paper.S-of a c) 0 past)
+matched s a c h m =
+    let k = counts s c h in
+    (k .owned ∙ same (m .A c), k .jumps ∙ same (m .J c), k .stores ∙ same (m .S c))
+  where
+    same : {t u : ℕ → Bool} → ((x : ℕ) → t x ≡ u x) → countFrom u 0 past ≡ countFrom t 0 past
+    same {t} {u} e = count-same u t 0 past (λ x l k. sym (e x))
+
+-- ---- the most widely writable word
+
+ones-at : (sets : List ℕ) (k x : ℕ) → x < k → size (getD sets x 0) ≤ mostOnes sets k
+unfolding mostOnes
+ones-at sets zero x h = absurd (omega arith)
+ones-at sets (suc k) x h = go (ℕ-discrete x k) (ones-at sets k x)
+  where
+    go : Dec (x ≡ k) → (x < k → size (getD sets x 0) ≤ mostOnes sets k) → size (getD sets x 0) ≤ max (mostOnes sets k) (size (getD sets k 0))
+    go (yes e) ih = let f : size (getD sets x 0) ≡ size (getD sets k 0) = ap (λ (y : ℕ). size (getD sets y 0)) e in omega arith
+    go (no e) ih = let i = ih (omega arith) in omega arith
+
+-- a place whose W has that many
+pub record Met (sets : List ℕ) (k most : ℕ) : Type 0 where
+  pub place : ℕ
+  pub below : place < k
+  pub ones : size (getD sets place 0) ≡ most
+
+ones-met : (sets : List ℕ) (k : ℕ) → Met sets (suc k) (mostOnes sets (suc k))
+unfolding mostOnes
+ones-met sets zero = record { place = 0; below = omega arith; ones = omega arith }
+ones-met sets (suc k) = go (ltb (mostOnes sets (suc k)) (size (getD sets (suc k) 0))) refl (ones-met sets k)
+  where
+    go : (b : Bool) → ltb (mostOnes sets (suc k)) (size (getD sets (suc k) 0)) ≡ b → Met sets (suc k) (mostOnes sets (suc k))
+        → Met sets (suc (suc k)) (max (mostOnes sets (suc k)) (size (getD sets (suc k) 0)))
+    go true e m = let l : mostOnes sets (suc k) < size (getD sets (suc k) 0) = ltb-true _ _ e in record { place = suc k; below = omega arith; ones = omega arith }
+    go false e m = let l : size (getD sets (suc k) 0) ≤ mostOnes sets (suc k) = ltb-false _ _ e in record { place = m .place; below = omega arith; ones = omega arith }
+
+pub widest-most : (s : State) → sized s ≡ true → (x : ℕ) → x < s .cpu .n → size (getD (s .writers) x 0) ≤ widest s
+unfolding widest
+widest-most s h x k =
+    let z = is-sized s h in
+    let l : s .cpu .n ≤ length (s .words) = z .lent .enough in
+    let w : length (s .writers) ≡ length (s .words) = z .lent .writers in
+    ones-at (s .writers) (min (s .cpu .n) (length (s .writers))) x (omega arith)
+
+pub widest-met : (s : State) → sized s ≡ true → Met (s .writers) (s .cpu .n) (widest s)
+unfolding widest
+widest-met s h =
+    let z = is-sized s h in
+    let f : 1 ≤ s .cpu .n = z .some in
+    let l : s .cpu .n ≤ length (s .words) = z .lent .enough in
+    let w : length (s .writers) ≡ length (s .words) = z .lent .writers in
+    let e : min (s .cpu .n) (length (s .writers)) ≡ suc (s .cpu .n - 1) = omega arith in
+    let m = ones-met (s .writers) (s .cpu .n - 1) in
+    let b : m .place < suc (s .cpu .n - 1) = m .below in
+    record { place = m .place; below = omega arith; ones = m .ones ∙ ap (mostOnes (s .writers)) (sym e) }

@@ -1,0 +1,122 @@
+// The counts that the run program prints: how many addresses a compartment owns, may jump to and may store to, and how many may
+// write to the most widely writable word. For any state: where a list is shorter than N, its end ends the count.
+ghost use mathlib.Core.Path.{_≡_};
+ghost use mathlib.Core.List.{[]};
+ghost use Prim.Native.Nat.{min};
+ghost use lib.ListN.{length};
+ghost use Rattle.common.specs.Instructions.{bit};
+ghost use Rattle.rules.specs.Counts.{ownedCount, jumpCount, storeCount, widest};
+ghost use Rattle.machine.specs.Views.{stateOf};
+ghost use Rattle.report.specs.CountLaws.{placesOwned, placesWith, outside, three};
+use compartments::Set;
+use machine::Processor;
+use monitor::ADD_JUMP_TARGET;
+use monitor::ADD_STORE_TARGET;
+use monitor::ISOLATE;
+
+// How many places are looked at.
+fn least(n: u32, length: usize) -> usize
+    ensures { λ r. ⌜ r ≡ min n length ⌝ }
+{
+    let places = n as usize;
+    if length < places {
+        return length;
+    }
+    places
+}
+
+// How many places below N the number owns.
+fn places_owned(owners: &[u32], n: u32, number: u32) -> u32
+    ensures { λ r. ⌜ r ≡ placesOwned (now (owners .entry)) n number ⌝ }
+{
+    let places = least(n, owners.len());
+    let mut count: u32 = 0;
+    let mut x = 0;
+    while x < places {
+        if owners[x] == number {
+            count += 1;
+        }
+        x += 1;
+    }
+    count
+}
+
+// How many of the sets at places below N have the number.
+fn places_with(sets: &[u64], n: u32, number: u32) -> u32
+    ensures { λ r. ⌜ r ≡ placesWith (now (sets .entry)) n number ⌝ }
+{
+    let places = least(n, sets.len());
+    let mut count: u32 = 0;
+    let mut x = 0;
+    while x < places {
+        if Set(sets[x]).contains(number) {
+            count += 1;
+        }
+        x += 1;
+    }
+    count
+}
+
+// 1 for a service at x that has the number and that N does not reach, else 0.
+fn service(n: u32, x: u32, has: bool) -> u32
+    ensures { λ r. ⌜ r ≡ bit (outside n x has) ⌝ }
+{
+    if x < n {
+        return 0;
+    }
+    if has {
+        return 1;
+    }
+    0
+}
+
+// How many of the three services have the number.
+fn services(n: u32, isolate: bool, jump: bool, store: bool) -> u32
+    ensures { λ r. ⌜ r ≡ three n isolate jump store ⌝ }
+{
+    service(n, ISOLATE, isolate)
+        + service(n, ADD_JUMP_TARGET, jump)
+        + service(n, ADD_STORE_TARGET, store)
+}
+
+// The addresses that a compartment owns, services counted.
+pub fn owned(cpu: Processor, owners: &[u32], number: u32) -> u32
+    ensures { λ r. ⌜ r ≡ ownedCount (stateOf cpu [] (now (owners .entry)) [] []) number ⌝ }
+{
+    // 1, 2 and 3 own a service each
+    places_owned(owners, cpu.n, number) + services(cpu.n, number == 1, number == 2, number == 3)
+}
+
+// The addresses that a compartment may jump to, services counted.
+pub fn jumps(cpu: Processor, jumpers: &[u64], number: u32) -> u32
+    ensures { λ r. ⌜ r ≡ jumpCount (stateOf cpu [] [] (now (jumpers .entry)) []) number ⌝ }
+{
+    let isolate = Set(cpu.services[0]).contains(number);
+    let jump = Set(cpu.services[1]).contains(number);
+    let store = Set(cpu.services[2]).contains(number);
+    places_with(jumpers, cpu.n, number) + services(cpu.n, isolate, jump, store)
+}
+
+// The addresses that a compartment may store to. No service is among them.
+pub fn stores(cpu: Processor, writers: &[u64], number: u32) -> u32
+    ensures { λ r. ⌜ r ≡ storeCount (stateOf cpu [] [] [] (now (writers .entry))) number ⌝ }
+{
+    places_with(writers, cpu.n, number)
+}
+
+// The most compartments that may write to any one word below N.
+pub fn widest(cpu: Processor, writers: &[u64]) -> u32
+    ensures { λ r. ⌜ r ≡ widest (stateOf cpu [] [] [] (now (writers .entry))) ⌝ }
+{
+    let places = least(cpu.n, writers.len());
+    let mut most: u32 = 0;
+    let mut x = 0;
+    while x < places {
+        let count = Set(writers[x]).count();
+        if most < count {
+            most = count;
+        }
+        x += 1;
+    }
+    most
+}
