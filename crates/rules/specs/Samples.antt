@@ -37,6 +37,12 @@ image-many =
 abbrev bytes : List ℕ → List ℕ
 bytes words = imageBytes words (replicate 16 0) 0
 
+-- image one byte by byte, so that the order of bytes does not rest on writer and reader agreeing
+abbrev one-bytes : List ℕ
+one-bytes =
+    4 ∷ 0 ∷ 0 ∷ 0 ∷ 0x03 ∷ 0x00 ∷ 0x10 ∷ 0x01 ∷ 0x07 ∷ 0x00 ∷ 0x20 ∷ 0x01 ∷ 0x00 ∷ 0x00 ∷ 0x12 ∷ 0x09 ∷ 0x00 ∷ 0x00 ∷ 0x00 ∷ 0x0D
+    ∷ 0 ∷ 0 ∷ 0 ∷ 0 ∷ 1 ∷ 0 ∷ 0 ∷ 0 ∷ 0 ∷ 0 ∷ 0 ∷ 0 ∷ []
+
 -- memories longer than N, with something in them
 abbrev lent : State
 lent =
@@ -74,6 +80,7 @@ abbrev sixty : List ℕ
 sixty = answer.done ∷ 549 ∷ isolate ∷ 0 ∷ 1 ∷ 64 ∷ []
 
 pub record Samples : Type 0 where
+  pub written : bytes image-one ≡ one-bytes
   -- at most 100,000 steps, as the run program
   pub one : Stands 100000 image-one three three
   pub two : Stands 100000 image-two seven seven
@@ -86,6 +93,7 @@ pub samples : Samples
 unfolding seen paperSeen row allowed decode arithmetic offset displaced branch pcAfter regsAfter wordsAfter jumps serviceCount isService serviceAt isServiceNumber pairsAt setAt inside ordered goodSet isEmpty inSet allFrom within member insert services main firstNumber inMemory hasOwner ownerAt jumpersAt writersAt owns mayJump mayStore checks.sameLengths checks.sized checks.numbered checks.seated checks.formed checks.badOwner checks.arrives checks.instructionAt checks.storeVerdict checks.instructionVerdict checks.wordVerdict checks.goodSets checks.setsWithin checks.returns checks.isolateVerdict checks.addVerdict checks.serviceVerdict checks.verdict step.ranInstruction step.mapFrom step.owned step.joined step.joinedServices step.isolated step.jumpAdded step.storeAdded step.ranService step.commit step.step run field fields entryVerdict lastListed registersVerdict imageVerdict blank loaded notLoaded loadVerdict load allBytes section listed imageBytes paper.inMemory paper.serviceComps paper.initialComps paper.initial paper.holder paper.arrives paper.instructionAt paper.storeVerdict paper.instructionVerdict paper.wordVerdict paper.ranInstruction paper.goodSets paper.setsWithin paper.returns paper.isolateVerdict paper.addVerdict paper.serviceVerdict paper.isolated paper.jumpAdded paper.storeAdded paper.ranService paper.verdict paper.commit paper.step paper.run
 samples =
     record {
+      written = refl;
       one = record { loads = refl; on-tags = refl; on-sets = refl };
       two = record { loads = refl; on-tags = refl; on-sets = refl };
       many = record { loads = refl; on-tags = refl; on-sets = refl };
