@@ -15,13 +15,13 @@ use memory::set_at;
 use memory::word_at;
 
 // The addresses first .. past - 1.
-pub struct Pair {
+pub(crate) struct Pair {
     pub first: u32,
     pub past: u32,
 }
 
 // Pair j of the set at q.
-pub fn pair_at(words: &[u32], q: u32, j: u32) -> Pair
+pub(crate) fn pair_at(words: &[u32], q: u32, j: u32) -> Pair
     requires { ⌜ q + 2 * j + 2 < 4294967296 ⌝ }
     ensures { λ r. ⌜ pairOf r ≡ pairAt (now (words .entry)) (q + 1) j ⌝ }
 {
@@ -64,7 +64,7 @@ fn good(words: &[u32], n: u32, q: u32) -> bool
 }
 
 // Whether the three sets are good.
-pub fn all_good(words: &[u32], n: u32, a: u32, j: u32, s: u32) -> bool
+pub(crate) fn all_good(words: &[u32], n: u32, a: u32, j: u32, s: u32) -> bool
     ensures { λ r. ⌜ r ≡ (goodSet (now (words .entry)) n a && goodSet (now (words .entry)) n j && goodSet (now (words .entry)) n s) ⌝ }
 {
     if !good(words, n, a) {
@@ -86,7 +86,7 @@ fn in_pair(pair: Pair, x: u32) -> bool
 }
 
 // Whether x is in the set at q.
-pub fn has(words: &[u32], q: u32, x: u32) -> bool
+pub(crate) fn has(words: &[u32], q: u32, x: u32) -> bool
     requires { ⌜ Counted (now words) q ⌝ }
     ensures { λ r. ⌜ r ≡ inSet (setAt (now (words .entry)) q) x ⌝ }
 {
@@ -112,7 +112,7 @@ fn is_service(x: u32) -> bool
 }
 
 // Whether the caller owns x, a memory word or a service. The compartments 1, 2 and 3 own the services.
-pub fn owns(n: u32, caller: u32, owners: &[u32], x: u32) -> bool
+pub(crate) fn owns(n: u32, caller: u32, owners: &[u32], x: u32) -> bool
     ensures { λ r. ⌜ r ≡ owns (asked n (now (owners .entry)) [] []) caller x ⌝ }
 {
     if x < n {
@@ -148,7 +148,7 @@ fn reaches(n: u32, caller: u32, owners: &[u32], sets: &[u64], services: &[u64], 
 }
 
 // Where a walk over a memory ends: at past, at n, or at the end of what is lent.
-pub fn clipped(past: u32, n: u32, len: usize) -> usize
+pub(crate) fn clipped(past: u32, n: u32, len: usize) -> usize
     ensures { λ r. ⌜ r ≡ min (min past n) len ⌝ }
 {
     let a = past as usize;
@@ -200,7 +200,7 @@ fn reaches_all(
 }
 
 // Whether the caller reaches every address of the set at q.
-pub fn within(
+pub(crate) fn within(
     words: &[u32],
     q: u32,
     n: u32,
@@ -225,7 +225,7 @@ pub fn within(
 }
 
 // Whether x is a memory word that the caller owns and keeps when the set at q is taken away.
-pub fn returns(words: &[u32], q: u32, n: u32, caller: u32, owners: &[u32], x: u32) -> bool
+pub(crate) fn returns(words: &[u32], q: u32, n: u32, caller: u32, owners: &[u32], x: u32) -> bool
     requires { ⌜ Counted (now words) q ⌝ }
     ensures { λ r. ⌜ r ≡ leaves (now (words .entry)) q n caller (now (owners .entry)) x ⌝ }
 {

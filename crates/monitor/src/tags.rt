@@ -42,7 +42,7 @@ fn join_pair(sets: &mut [u64], n: u32, pair: Pair, number: u32)
 }
 
 // The words of the set at q get an owner.
-pub fn own(owners: &mut [u32], words: &[u32], n: u32, q: u32, number: u32)
+pub(crate) fn own(owners: &mut [u32], words: &[u32], n: u32, q: u32, number: u32)
     requires { ⌜ Counted (now words) q ⌝ }
     ensures { λ r. ⌜ now (owners .exit) ≡ owned n (setAt (now (words .entry)) q) number (now (owners .entry)) ⌝ }
 {
@@ -55,7 +55,7 @@ pub fn own(owners: &mut [u32], words: &[u32], n: u32, q: u32, number: u32)
 }
 
 // A number joins the sets at the words of the set at q.
-pub fn join(sets: &mut [u64], words: &[u32], n: u32, q: u32, number: u32)
+pub(crate) fn join(sets: &mut [u64], words: &[u32], n: u32, q: u32, number: u32)
     requires { ⌜ Counted (now words) q ⌝ }
     ensures { λ r. ⌜ now (sets .exit) ≡ joined n (setAt (now (words .entry)) q) number (now (sets .entry)) ⌝ }
 {
@@ -79,7 +79,7 @@ fn join_if(joins: bool, set: u64, number: u32) -> u64
 }
 
 // A number joins the sets of the services that the set at q has.
-pub fn join_services(services: [u64; 3], words: &[u32], q: u32, number: u32) -> [u64; 3]
+pub(crate) fn join_services(services: [u64; 3], words: &[u32], q: u32, number: u32) -> [u64; 3]
     requires { ⌜ Counted (now words) q ⌝ }
     ensures { λ r. ⌜ r ≡ joinedServices (setAt (now (words .entry)) q) number services ⌝ }
 {
@@ -90,7 +90,7 @@ pub fn join_services(services: [u64; 3], words: &[u32], q: u32, number: u32) -> 
 }
 
 // A number joins the set at x.
-pub fn join_at(sets: &mut [u64], x: u32, number: u32)
+pub(crate) fn join_at(sets: &mut [u64], x: u32, number: u32)
     ensures { λ r. ⌜ now (sets .exit) ≡ joinAt (now (sets .entry)) x number ⌝ }
 {
     let set = Set(set_at(sets, x)).insert(number);
