@@ -1,3 +1,4 @@
+-- ---- what is promised to the customer, demand by demand
 pub mod Demands
 pub mod Promises
 pub mod Code

@@ -52,6 +52,8 @@ use Rattle.machine.specs.Promises as machine
 use Rattle.machine.specs.Promises.{Left}
 use Rattle.images.specs.Promises as images
 use Rattle.images.specs.Promises.{lent, loadedOf, writtenOf}
+use Rattle.rules.specs.Counts.{ownedCount, jumpCount, storeCount, widest}
+use Rattle.report.specs.Promises as report
 use Rattle.host.specs.Promises as host
 use Rattle.host.specs.Promises.{loadedBy, steppedBy, ranBy, DecodeOutcome, encodedBy, writtenBy}
 
@@ -326,6 +328,22 @@ load-once = images.load-once
 pub write-once : (words regs : List ℕ) (entry : ℕ) (out : List ℕ) (o p : images.WriteOutcome)
     → writtenOf (o .result) (o .out) ≡ write words regs entry out → writtenOf (p .result) (p .out) ≡ write words regs entry out → o ≡ p
 write-once = images.write-once
+
+-- report: owned, jumps, stores, widest, which are lent one memory each and change nothing
+pub owned-once : (cpu : Processor) (owners : List ℕ) (c r q : ℕ)
+    → r ≡ ownedCount (stateOf cpu [] owners [] []) c → q ≡ ownedCount (stateOf cpu [] owners [] []) c → r ≡ q
+owned-once = report.owned-once
+
+pub jumps-once : (cpu : Processor) (jumpers : List ℕ) (c r q : ℕ)
+    → r ≡ jumpCount (stateOf cpu [] [] jumpers []) c → q ≡ jumpCount (stateOf cpu [] [] jumpers []) c → r ≡ q
+jumps-once = report.jumps-once
+
+pub stores-once : (cpu : Processor) (writers : List ℕ) (c r q : ℕ)
+    → r ≡ storeCount (stateOf cpu [] [] [] writers) c → q ≡ storeCount (stateOf cpu [] [] [] writers) c → r ≡ q
+stores-once = report.stores-once
+
+pub widest-once : (cpu : Processor) (writers : List ℕ) (r q : ℕ) → r ≡ widest (stateOf cpu [] [] [] writers) → q ≡ widest (stateOf cpu [] [] [] writers) → r ≡ q
+widest-once = report.widest-once
 
 -- host: kl_load, kl_step, kl_run, with the record and the four memories, and for kl_run the count
 pub kl-load-once : (bytes words owners jumpers writers : List ℕ) (o p : host.Outcome)

@@ -1,7 +1,7 @@
 -- The machine's counts of ones and of trailing zeros are a set's size and its lowest number.
 use mathlib.Core.Path.{_≡_, refl, sym, ap, _∙_, subst}
-use mathlib.Core.Bool.{Bool, true, false, cond}
-use Prim.Native.Nat.{ℕ, zero, suc, _+_, _*_, _/_, _%_, _^_, _<_}
+use mathlib.Core.Bool.{Bool, cond}
+use Prim.Native.Nat.{ℕ, zero, suc, _+_, _/_, _%_, _^_, _<_}
 use native.Mathlib.Nat.{div-one, le-of-suc-le-suc, not-suc-le-zero, mod-lt, div-lt-iff-lt-mul, pow-suc, add-suc, suc-add, add-zero, zero-add}
 use native.Mathlib.Numerals.{one-add, add-one}
 use native.Mathlib.Omega.{arith}

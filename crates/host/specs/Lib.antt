@@ -1,1 +1,2 @@
+-- ---- what the calls for C promise
 pub mod Promises

@@ -1,3 +1,4 @@
+-- ---- laws of reading, filling and writing images, and their promises
 pub mod Accepted
 pub mod Filling
 pub mod Listed

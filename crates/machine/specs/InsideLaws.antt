@@ -6,7 +6,7 @@ use mathlib.Core.Logic.{_≢_}
 use Prim.Native.Nat.{ℕ, zero, suc, _+_, _-_, _≤_, _<_}
 use native.Mathlib.Omega.{arith}
 use native.Mathlib.Nat.{zero-add, add-zero, sub-zero}
-use borrow.Author.Tests.{lt-ltb, le-ltb, ltb-true, eqb-true, eqb-false, eq-eqb, ne-eqb, not-true, not-false}
+use borrow.Author.Tests.{lt-ltb, le-ltb, eqb-true, eqb-false, eq-eqb, ne-eqb, not-true, not-false}
 use lib.Dec.{ltb, eqb}
 use lib.ListN.{length, set, length-set}
 use Rattle.common.specs.Answers as answer
@@ -21,7 +21,7 @@ use Rattle.rules.specs.Stays.{stopped-stays}
 use Rattle.rules.specs.Rest.{run-keeps-rest}
 use Rattle.rules.specs.Formed.{step-formed, run-formed}
 use Rattle.moves.specs.declared.Move.{Move}
-use Rattle.moves.specs.Applied.{putReg, putWord, applied, moveAt, move-stops, move-runs}
+use Rattle.moves.specs.Applied.{putReg, putWord, moveAt, move-stops, move-runs}
 use Rattle.machine.specs.Form.{formedBy, formed-by}
 use Rattle.machine.specs.RunLaws.{after, Going}
 

@@ -1,3 +1,4 @@
+-- ---- laws of the form, the services and the run, and the promises
 pub mod ServiceLaws
 pub mod Views
 pub mod Form

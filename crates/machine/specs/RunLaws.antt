@@ -1,27 +1,20 @@
 -- A run in the forms in which the code's loop comes to it.
 use mathlib.Core.Path.{_≡_, refl, sym, ap, _∙_, subst}
-use mathlib.Core.Bool.{Bool, true, false, cond, not}
-use mathlib.Core.List.{List}
+use mathlib.Core.Bool.{Bool, true, false, not}
 use mathlib.Core.Logic.{_≢_}
-use Prim.Native.Nat.{ℕ, zero, suc, _+_, _-_, _≤_, _<_}
+use Prim.Native.Nat.{ℕ, suc, _+_, _-_, _≤_, _<_}
 use native.Mathlib.Omega.{arith}
 use native.Mathlib.Nat.{zero-add, add-zero, sub-zero}
-use native.Mathlib.Numerals.{add-one}
-use borrow.Author.Tests.{not-true, not-false, eqb-true}
-use lib.Dec.{eqb}
+use borrow.Author.Tests.{not-true, not-false}
 use lib.ListN.{length}
 use Rattle.common.specs.Answers as answer
 use Rattle.rules.specs.State.{State}
 use Rattle.rules.specs.Checks.{formed, verdict}
 use Rattle.rules.specs.Step.{Stepped, step}
-use Rattle.rules.specs.Run.{Ran, oneMore, ended, run}
-use Rattle.rules.specs.FormLaws.{n-most}
+use Rattle.rules.specs.Run.{Ran, run}
 use Rattle.rules.specs.StepLaws.{run-goes-on, run-ends}
 use Rattle.rules.specs.Rest.{step-keeps-rest}
 use Rattle.rules.specs.Formed.{step-formed}
-use Rattle.moves.specs.declared.Move.{Move}
-use Rattle.moves.specs.Moves.{moveOf}
-use Rattle.moves.specs.Applied.{putReg, putWord, applied, moveAt, move-stops, move-runs}
 use Rattle.machine.specs.Form.{formedBy, formed-by}
 
 -- ---- a run that goes on after count steps

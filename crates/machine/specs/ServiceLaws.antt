@@ -1,12 +1,12 @@
 -- A step outside memory in the forms in which the code comes to it: 2, or arrival at a service and then its call.
 use mathlib.Core.Path.{_≡_, refl, sym, ap, _∙_}
-use mathlib.Core.Bool.{Bool, true, false, cond, not, _&&_, _||_, and-true}
+use mathlib.Core.Bool.{Bool, true, false, cond, not, _&&_}
 use mathlib.Core.List.{List, []}
 use mathlib.Core.Logic.{_≢_}
-use Prim.Native.Nat.{ℕ, suc, _+_, _-_, _≤_, _<_}
+use Prim.Native.Nat.{ℕ, suc, _+_, _-_, _≤_}
 use native.Mathlib.Omega.{arith}
 use native.Mathlib.Numerals.{add-one}
-use borrow.Author.Tests.{lt-ltb, le-ltb, le-leb, lt-leb, leb-true, eq-eqb, ne-eqb, eqb-true, eqb-false, not-true, not-false}
+use borrow.Author.Tests.{le-ltb, leb-true, eq-eqb, ne-eqb, eqb-true, eqb-false, not-true, not-false}
 use lib.Dec.{ltb, leb, eqb}
 use lib.ListN.{getD}
 use Rattle.common.specs.Answers as answer
@@ -17,7 +17,7 @@ use Rattle.common.specs.Tests.{clash}
 use Rattle.rules.specs.Compartments.{member, empty}
 use Rattle.rules.specs.State.{Processor, State, inMemory, hasOwner, ownerAt, jumpersAt, writersAt, owns, mayJump, mayStore}
 use Rattle.rules.specs.Checks.{seated, formed, badOwner, arrives, goodSets, setsWithin, returns, setA, setJ, setS, isolateVerdict, addVerdict, serviceVerdict, verdict}
-use Rattle.rules.specs.Step.{owned, joined, joinedServices, joinAt, isolated, jumpAdded, storeAdded, ranService, commit, Stepped, step}
+use Rattle.rules.specs.Step.{owned, joined, joinedServices, joinAt, isolated, jumpAdded, storeAdded, ranService, commit, step}
 use Rattle.rules.specs.FormLaws.{is-formed, is-numbered}
 use Rattle.monitor.specs.Outcomes.{called, Isolating, isolating, Adding, adding}
 
@@ -206,10 +206,6 @@ module _ (p : Processor) (number gate : ℕ) (owners sets : List ℕ) (t : Bool)
 
 -- such an add is the step, where `put` puts the memory of sets in its place
 module _ (s : State) (f : formed s ≡ true) (h : s .cpu .n ≤ s .cpu .pc) (k : isService (s .cpu .pc) ≡ true) (gate : ℕ) (g : gate ≡ getD (s .cpu .services) (s .cpu .pc - isolate) empty) (number : ℕ) (sets : List ℕ) (put : Processor → List ℕ → State) (was : put (s .cpu) sets ≡ s) (v : serviceVerdict s (s .cpu .prev) ≡ addVerdict s (s .cpu .prev)) (r : ranService s ≡ put (backWith (s .cpu) number (s .cpu .next) (s .cpu .services)) (joinAt sets (reg (s .cpu .regs) 1) (s .cpu .prev))) where
-  adding-is : addingBy (s .cpu) (s .owners) sets ≡ adding s sets
-  unfolding adding
-  adding-is = simp (same-add s)
-
   add-steps : record { answer = addedBy (s .cpu) number gate (s .owners) sets .answer; state = put (addedBy (s .cpu) number gate (s .owners) sets .cpu) (addedBy (s .cpu) number gate (s .owners) sets .sets) } ≡ step s
   unfolding addedBy adding
   add-steps = go (arrivesBy (s .cpu) gate) (eqb (addVerdict s (s .cpu .prev)) answer.done) refl refl

@@ -1,1 +1,2 @@
+-- ---- what the reads promise
 pub mod Promises

@@ -1,6 +1,6 @@
 // Sets of addresses where they stand in memory, "a count k, then k pairs (first, past)", and whether a compartment may give them away.
 ghost use mathlib.Core.Path.{_≡_};
-ghost use mathlib.Core.Bool.{_&&_, not};
+ghost use mathlib.Core.Bool.{_&&_};
 ghost use mathlib.Core.List.{[]};
 ghost use Prim.Native.Nat.{_+_, _-_, _*_, _<_, min};
 ghost use Rattle.common.specs.Services.{isService};

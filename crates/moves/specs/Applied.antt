@@ -1,22 +1,22 @@
 -- What a move means: a step at a memory word is the move that `moveOf` finds, applied where its answer is 0.
 use mathlib.Core.Path.{_≡_, refl, sym, ap, _∙_}
-use mathlib.Core.Bool.{Bool, true, false, cond, not, _&&_, _||_, and-false}
+use mathlib.Core.Bool.{Bool, true, false, cond, not, _||_}
 use mathlib.Core.List.{List}
 use mathlib.Core.Logic.{_≢_}
-use Prim.Native.Nat.{ℕ, zero, suc, _+_, _%_, _≤_, _<_}
+use Prim.Native.Nat.{ℕ, _≤_, _<_}
 use native.Mathlib.Omega.{arith}
-use borrow.Author.Tests.{lt-ltb, le-ltb, le-leb, lt-leb, eq-eqb, ne-eqb, eqb-true, eqb-false, leb-true, leb-false}
+use borrow.Author.Tests.{lt-ltb, le-ltb, le-leb, ne-eqb, eqb-true, eqb-false, leb-true, leb-false}
 use lib.Dec.{ltb, leb, eqb}
 use lib.ListN.{getD, set}
 use Rattle.common.specs.Answers as answer
 use Rattle.common.specs.Opcodes as op
-use Rattle.common.specs.Words.{Decoded, decode}
+use Rattle.common.specs.Words.{Decoded}
 use Rattle.common.specs.WordLaws.{decoded-small, rd-small}
 use Rattle.common.specs.Instructions.{reg, plus, arithmetic, pcAfter, regsAfter, wordsAfter, jumps}
 use Rattle.common.specs.Services.{isServiceNumber}
 use Rattle.rules.specs.State.{State, inMemory, hasOwner, ownerAt, jumpersAt, writersAt, owns, mayJump, mayStore}
 use Rattle.rules.specs.Checks.{formed, badOwner, arrives, instructionAt, storeVerdict, instructionVerdict, wordVerdict, verdict}
-use Rattle.rules.specs.Step.{ranInstruction, commit, Stepped, step}
+use Rattle.rules.specs.Step.{ranInstruction, commit, step}
 use Rattle.moves.specs.declared.Move.{Move}
 use Rattle.moves.specs.Moves.{no-register, nowhere, free, arrivesAt, mayStoreAt, loadMove, storeMove, bnzMove, instructionMove, wordMove, moveOf}
 

@@ -1,15 +1,14 @@
 -- The leaves of a decision, each return in the form in which the code comes to it.
-use mathlib.Core.Path.{_≡_, refl, sym, ap, _∙_}
-use mathlib.Core.Bool.{Bool, true, false, cond, not, _||_, _&&_, or-true, or-false}
+use mathlib.Core.Path.{_≡_, refl}
+use mathlib.Core.Bool.{Bool, true, false, not, or-true, or-false}
 use mathlib.Core.Logic.{_≢_}
 use Prim.Native.Nat.{ℕ, _+_, _-_, _*_, _%_, _^_, _≤_, _<_}
 use native.Mathlib.Omega.{arith}
-use borrow.Author.Tests.{lt-ltb, le-ltb, le-leb, lt-leb, eq-eqb, ne-eqb, leb-true, leb-false}
-use lib.Dec.{ltb, leb, eqb}
-use Rattle.common.specs.Instructions.{wrap, minus, bit, arithmetic, offset, displaced, branch}
+use borrow.Author.Tests.{lt-ltb, le-ltb, le-leb, lt-leb, ne-eqb, leb-true, leb-false}
+use lib.Dec.{leb, eqb}
+use Rattle.common.specs.Instructions.{minus, bit, arithmetic, offset, displaced, branch}
 use Rattle.common.specs.Services.{serviceCount, isServiceNumber}
-use Rattle.rules.specs.Compartments.{member}
-use Rattle.moves.specs.Moves.{free, arrivesAt, mayStoreAt}
+use Rattle.moves.specs.Moves.{free}
 
 -- what the library's difference says is the difference modulo 2^32
 difference : (x y r : ℕ) → x < 2 ^ 32 → y < 2 ^ 32 → r < 2 ^ 32 → (r + y) % 2 ^ 32 ≡ x → r ≡ minus x y

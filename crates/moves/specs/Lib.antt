@@ -1,3 +1,4 @@
+-- ---- what an instruction moves, its laws and the promise
 pub mod Moves
 pub mod LeafLaws
 pub mod MoveLaws

@@ -1,19 +1,19 @@
 -- The cases of a decision, each in the form in which the code comes to it.
 use mathlib.Core.Path.{_≡_, refl, sym, ap, _∙_, subst}
-use mathlib.Core.Bool.{Bool, true, false, cond, not, _&&_, _||_, and-false, or-true}
+use mathlib.Core.Bool.{Bool, true, false, not, _&&_, and-false, or-true}
 use mathlib.Core.List.{List}
 use mathlib.Core.Logic.{_≢_}
-use Prim.Native.Nat.{ℕ, _+_, _%_, _^_, _≤_, _<_}
+use Prim.Native.Nat.{ℕ, _%_, _≤_, _<_}
 use native.Mathlib.Omega.{arith}
-use borrow.Author.Tests.{ltb-true, ltb-false, lt-ltb, le-ltb, le-leb, lt-leb, eq-eqb, ne-eqb, not-true, not-false}
-use lib.Dec.{ltb, leb, eqb}
+use borrow.Author.Tests.{ltb-true, ltb-false, le-leb, lt-leb, eq-eqb, ne-eqb, not-true, not-false}
+use lib.Dec.{ltb, eqb}
 use lib.ListN.{getD}
 use Rattle.common.specs.Answers as answer
 use Rattle.common.specs.Tests.{NoneOf, past}
 use Rattle.common.specs.Words.{Decoded, decode}
 use Rattle.common.specs.Opcodes as op
 use Rattle.common.specs.WordLaws.{decoded-small, rd-small}
-use Rattle.common.specs.Instructions.{reg, plus, arithmetic, branch}
+use Rattle.common.specs.Instructions.{plus, arithmetic}
 use Rattle.rules.specs.Compartments.{member}
 use Rattle.instructions.specs.declared.Decoded.{Decoded as Fields}
 use Rattle.instructions.specs.Promises.{decoded}

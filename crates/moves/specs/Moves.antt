@@ -3,14 +3,13 @@ use mathlib.Core.Bool.{Bool, true, false, cond, _&&_, _||_, not}
 use mathlib.Core.List.{List}
 use Prim.Native.Nat.{ℕ}
 use lib.Dec.{ltb, leb, eqb}
-use lib.ListN.{getD, set}
+use lib.ListN.{getD}
 use Rattle.common.specs.Answers as answer
 use Rattle.common.specs.Opcodes as is
 use Rattle.common.specs.Words.{Decoded, decode}
 use Rattle.common.specs.Instructions.{reg, plus, arithmetic, branch}
 use Rattle.common.specs.Services.{isServiceNumber}
 use Rattle.rules.specs.Compartments.{member}
-use Rattle.rules.specs.State.{State}
 use Rattle.moves.specs.declared.Move.{Move}
 
 -- no register, and no place

@@ -21,7 +21,7 @@ use Rattle.rules.specs.Run.{run}
 use Rattle.rules.specs.FormLaws.{Lent}
 use Rattle.rules.specs.Passed.{store-passed}
 use Rattle.rules.specs.StepLaws.{step-cases, run-keeps}
-use Rattle.rules.specs.Grows.{SameSizes, same-sizes, same-sizes-then, step-same-sizes, run-same-sizes}
+use Rattle.rules.specs.Grows.{SameSizes, same-sizes, same-sizes-then, step-same-sizes}
 use Rattle.rules.specs.TagLaws.{length-map, drop-map}
 
 -- ---- one memory, before and after
@@ -137,6 +137,3 @@ kept-sized s t e k = simp (e, k .words .same-length, k .owners .same-length, k .
 
 pub step-sized : (s : State) → sized (step s .state) ≡ sized s
 step-sized s = kept-sized s (step s .state) (step-same-sizes s .n) (step-keeps-rest s)
-
-pub run-sized : (k : ℕ) (s : State) → sized (run k s .state) ≡ sized s
-run-sized k s = kept-sized s (run k s .state) (run-same-sizes k s .n) (run-keeps-rest k s)

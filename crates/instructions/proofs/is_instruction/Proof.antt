@@ -1,6 +1,5 @@
 -- The mask test is the rules' test.
 use native.Mathlib.Omega.{arith}
-use mathlib.Core.Path.{_≡_, ap, _∙_}
 use Rattle.instructions.specs.Masks.{mask-allowed, op-high}
 use borrow.Author.Needs.{needs}
 use Rattle.instructions.proofs.is_instruction.Statement.{statement}

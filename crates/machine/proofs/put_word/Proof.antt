@@ -1,6 +1,6 @@
 -- `put_word`, test by test.
 use borrow.Author.Tests.{le-ltb, lt-ltb}
-use mathlib.Core.Path.{sym, _∙_}
+use mathlib.Core.Path.{sym}
 use lib.Seq.{set-out}
 use Rattle.moves.specs.Applied.{putWord}
 use borrow.Author.Needs.{needs}

@@ -1,6 +1,5 @@
 -- `decide`, case by case.
 use mathlib.Core.Logic.{⊎-elim}
-use mathlib.Core.Path.{refl, ap, _∙_}
 use Rattle.moves.specs.MoveLaws as law
 use borrow.Author.Needs.{needs}
 use Rattle.moves.proofs.decide.Statement.{statement}

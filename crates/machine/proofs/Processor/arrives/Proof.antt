@@ -1,7 +1,5 @@
 -- `arrives`, return by return, by the laws of the machine's specs.
 use borrow.Author.Tests.{not-true, not-false}
-use mathlib.Core.Path.{_≡_}
-use mathlib.Core.Bool.{true, false}
 use borrow.Author.Needs.{needs}
 use Rattle.machine.proofs.Processor.arrives.Statement.{statement}
 use Rattle.machine.proofs.Processor.arrives.Tie as tie

@@ -1,13 +1,9 @@
 -- `inside`, need by need: the loop's invariant is the run at the place reached.
 use Prim.Native.Nat.{_<_, _-_}
 use native.Mathlib.Omega.{arith}
-use mathlib.Core.Path.{ap, sym, _∙_}
 use borrow.Author.Needs.{needs}
-use Rattle.common.specs.Tests.{clash}
-use borrow.Author.Tests.{not-true}
-use Rattle.machine.specs.Form.{formed-by}
-use Rattle.machine.specs.Views.{stateOf, ranOf}
-use Rattle.machine.specs.InsideLaws.{Inside, enters, inside-used, leaves, word-stops, word-turns, is-formed-by, formed-not}
+use Rattle.machine.specs.Views.{stateOf}
+use Rattle.machine.specs.InsideLaws.{Inside, enters, inside-used, leaves, word-stops, word-turns, formed-not}
 use Rattle.machine.proofs.Processor.inside.Statement.{statement}
 use Rattle.machine.proofs.Processor.inside.Tie as tie
 

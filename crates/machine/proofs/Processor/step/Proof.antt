@@ -1,5 +1,4 @@
 -- `step`, need by need: the loop's invariant is the run at the place reached.
-use mathlib.Core.Path.{_∙_}
 use Rattle.machine.specs.InsideLaws.{inside-one, step-unformed, is-formed-by}
 use borrow.Author.Needs.{needs}
 use Rattle.machine.proofs.Processor.step.Statement.{statement}
