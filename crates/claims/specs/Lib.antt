@@ -1,4 +1,5 @@
 -- ---- what is promised to the customer, demand by demand
 pub mod Demands
 pub mod Promises
+pub mod Inner
 pub mod Code

@@ -1,26 +1,16 @@
 -- What a call of a monitor service comes to, and what is seen of it.
-use mathlib.Core.Bool.{true, cond}
+use mathlib.Core.Bool.{cond}
 use mathlib.Core.List.{List}
 use Prim.Native.Nat.{ℕ}
 use lib.Dec.{eqb}
 use Rattle.common.specs.Answers as answer
-use Rattle.common.specs.Services as service
 use Rattle.common.specs.Instructions.{reg}
 use Rattle.rules.specs.State.{State}
 use Rattle.rules.specs.Checks.{setA, setJ, setS, isolateVerdict, addVerdict}
 use Rattle.rules.specs.Step.{owned, joined, joinedServices, joinAt}
 use Rattle.monitor.specs.declared.Isolated.{Isolated}
-
 -- the caller's numbers and the lent memories, at a service
-abbrev pub called : List ℕ → ℕ → ℕ → ℕ → List ℕ → List ℕ → List ℕ → List ℕ → List ℕ → State
-called regs n caller next services words owners jumpers writers =
-    record {
-      cpu = record { n = n; regs = regs; pc = service.isolate; prev = caller; jumped = true; next = next; services = services };
-      words = words;
-      owners = owners;
-      jumpers = jumpers;
-      writers = writers;
-    }
+pub use Rattle.reach.specs.Called.{called}
 
 -- ---- isolate: the answer, the services' sets and the three memories of tags
 

@@ -2,19 +2,12 @@
 ghost use mathlib.Core.Path.{_≡_};
 ghost use mathlib.Core.List.{[]};
 ghost use Rattle.rules.specs.Checks.{isolateVerdict};
-ghost use Rattle.monitor.specs.CallLaws.{AllCounted, allWithin};
 ghost use Rattle.monitor.specs.Outcomes.{called, isolating, isolatingOf, adding, addingOf};
+// Where the services sit, as the crates above name it.
+pub use address_sets::ADD_JUMP_TARGET;
+pub use address_sets::ADD_STORE_TARGET;
+pub use address_sets::ISOLATE;
 use memory::word_at;
-
-mod sets; // sets.rt: the sets of addresses, read where they stand
-mod tags; // tags.rt: the tags at the addresses of a set, written
-
-// Where the services sit.
-pub const ISOLATE: u32 = 4096;
-
-pub const ADD_JUMP_TARGET: u32 = 4097;
-
-pub const ADD_STORE_TARGET: u32 = 4098;
 
 // Compartment numbers are below this.
 const NUMBERS: u32 = 64;
@@ -23,31 +16,6 @@ const NUMBERS: u32 = 64;
 pub struct Isolated {
     pub answer: u32,
     pub services: [u64; 3],
-}
-
-// Whether the caller may give the three sets away: all of A' is its own, and all of J' and of S' is its own or open to it by grants.
-fn all_within(
-    regs: &[u32; 16],
-    n: u32,
-    caller: u32,
-    services: &[u64],
-    words: &[u32],
-    owners: &[u32],
-    jumpers: &[u64],
-    writers: &[u64],
-) -> bool
-    requires { ⌜ AllCounted (now words) (now regs) ⌝ }
-    ensures { λ r. ⌜ r ≡ allWithin (called (now (regs .entry)) n caller 0 (now (services .entry)) (now (words .entry)) (now (owners .entry)) (now (jumpers .entry)) (now (writers .entry))) caller ⌝ }
-{
-    // no sets: nobody is in them
-    let none = &services[..0];
-    if !sets::within(words, regs[1], n, caller, owners, none, none) {
-        return false;
-    }
-    if !sets::within(words, regs[2], n, caller, owners, jumpers, services) {
-        return false;
-    }
-    sets::within(words, regs[3], n, caller, owners, writers, none)
 }
 
 // The checks of isolate in the sheet's order.
@@ -64,16 +32,16 @@ fn isolate_verdict(
 ) -> u32
     ensures { λ r. ⌜ r ≡ isolateVerdict (called (now (regs .entry)) n caller next (now (services .entry)) (now (words .entry)) (now (owners .entry)) (now (jumpers .entry)) (now (writers .entry))) caller ⌝ }
 {
-    if !sets::all_good(words, n, regs[1], regs[2], regs[3]) {
+    if !address_sets::all_good(words, n, regs[1], regs[2], regs[3]) {
         return answers::BAD_SET;
     }
     if word_at(words, regs[1]) == 0 {
         return answers::EMPTY_SET;
     }
-    if !all_within(regs, n, caller, services, words, owners, jumpers, writers) {
+    if !reach::all_within(regs, n, caller, services, words, owners, jumpers, writers) {
         return answers::NOT_WITHIN;
     }
-    if !sets::returns(words, regs[1], n, caller, owners, regs[15]) {
+    if !reach::returns(regs, n, caller, words, owners) {
         return answers::NO_RETURN;
     }
     if next == NUMBERS {
@@ -125,10 +93,10 @@ pub fn add_target(regs: &[u32; 16], n: u32, caller: u32, owners: &[u32], sets: &
 {
     let target = regs[1];
     let back = regs[15];
-    if !sets::owns(n, caller, owners, target) {
+    if !reach::owns(n, caller, owners, target) {
         return answers::NOT_OWNED;
     }
-    if !sets::owns(n, caller, owners, back) {
+    if !reach::owns(n, caller, owners, back) {
         return answers::NO_RETURN;
     }
     tags::join_at(sets, target, caller);

@@ -1,6 +1,6 @@
 -- The checks' answer decides: nothing changes, or each memory and the services change as the rules have it.
 use borrow.Author.Needs.{needs}
-use Rattle.monitor.specs.CallLaws.{done-counted, isolate-stops, isolate-runs}
+use Rattle.monitor.specs.CallLaws.{isolate-stops, isolate-runs}
 use Rattle.monitor.proofs.isolate.Statement.{statement}
 use Rattle.monitor.proofs.isolate.Tie as tie
 
@@ -26,25 +26,25 @@ element-copy-out-own : tie.Need-element-copy-out-own
 element-copy-out-own c = search needs
 
 own-requires : tie.Need-own-requires
-own-requires c κs = done-counted _ _ (c .before .before .before .isolate-verdict .ensures) (c .before .before .if1 .left) (search needs) .0
+own-requires c κs = search needs
 
 element-copy-out-join : tie.Need-element-copy-out-join
 element-copy-out-join c = search needs
 
 join-requires : tie.Need-join-requires
-join-requires c κs = done-counted _ _ (c .before .before .before .before .before .before .before .before .isolate-verdict .ensures) (c .before .before .before .before .before .before .before .if1 .left) (search needs) .1
+join-requires c κs = search needs
 
 element-copy-out-join-2 : tie.Need-element-copy-out-join-2
 element-copy-out-join-2 c = search needs
 
 join-requires-2 : tie.Need-join-requires-2
-join-requires-2 c κs = done-counted _ _ (c .before .before .before .before .before .before .before .before .before .before .before .before .before .isolate-verdict .ensures) (c .before .before .before .before .before .before .before .before .before .before .before .before .if1 .left) (search needs) .2
+join-requires-2 c κs = search needs
 
 element-copy-out-join-services : tie.Need-element-copy-out-join-services
 element-copy-out-join-services c = search needs
 
 join-services-requires : tie.Need-join-services-requires
-join-services-requires c κs = done-counted _ _ (c .before .before .before .before .before .before .before .before .before .before .before .before .before .before .before .before .before .isolate-verdict .ensures) (c .before .before .before .before .before .before .before .before .before .before .before .before .before .before .before .before .if1 .left) (search needs) .1
+join-services-requires c κs = search needs
 
 same-length-4 : tie.Need-same-length-4
 same-length-4 c = search needs

@@ -2,7 +2,6 @@
 use borrow.Author.Needs.{needs}
 use Rattle.rules.specs.Checks.{goodSets}
 use Rattle.monitor.specs.CallLaws.{bad-sets, no-addresses, not-within, no-return, no-number, all-pass}
-use Rattle.monitor.specs.SetLaws.{all-counted}
 use Rattle.monitor.proofs.isolate_verdict.Statement.{statement}
 use Rattle.monitor.proofs.isolate_verdict.Tie as tie
 
@@ -33,32 +32,26 @@ unfolding goodSets
 returns-2 c = no-addresses _ _ _ (c .before .before .before .before .all-good .ensures) (c .before .before .before .if1 .left) _ (c .before .word-at .ensures) (c .if2 .taken)
 
 all-within-requires : tie.Need-all-within-requires
-all-within-requires c κs = all-counted _ _ _ _ _ _ (c .before .before .before .before .all-good .ensures) (c .before .before .before .if1 .left) (search needs)
+all-within-requires c κs = search needs
 
 returns-3 : tie.Need-returns-3
 unfolding goodSets
 returns-3 c = not-within _ _ _ (c .before .before .before .before .before .before .all-good .ensures) (c .before .before .before .before .before .if1 .left) _ (c .before .before .before .word-at .ensures) (c .before .before .if2 .left) _ (c .before .all-within .ensures) (c .if3 .taken)
 
-element-copy-out-returns : tie.Need-element-copy-out-returns
-element-copy-out-returns c = search needs
-
-element-copy-out-returns-2 : tie.Need-element-copy-out-returns-2
-element-copy-out-returns-2 c = search needs
-
 returns-requires : tie.Need-returns-requires
-returns-requires c κs = all-counted _ _ _ _ _ _ (c .before .before .before .before .before .before .before .before .all-good .ensures) (c .before .before .before .before .before .before .before .if1 .left) (search needs) .0
+returns-requires c κs = search needs
 
 returns-4 : tie.Need-returns-4
 unfolding goodSets
-returns-4 c = no-return _ _ _ (c .before .before .before .before .before .before .before .before .before .before .all-good .ensures) (c .before .before .before .before .before .before .before .before .before .if1 .left) _ (c .before .before .before .before .before .before .before .word-at .ensures) (c .before .before .before .before .before .before .if2 .left) _ (c .before .before .before .before .before .all-within .ensures) (c .before .before .before .before .if3 .left) _ (c .before .returns .ensures) (c .if4 .taken)
+returns-4 c = no-return _ _ _ (c .before .before .before .before .before .before .before .before .all-good .ensures) (c .before .before .before .before .before .before .before .if1 .left) _ (c .before .before .before .before .before .word-at .ensures) (c .before .before .before .before .if2 .left) _ (c .before .before .before .all-within .ensures) (c .before .before .if3 .left) _ (c .before .returns .ensures) (c .if4 .taken)
 
 returns-5 : tie.Need-returns-5
 unfolding goodSets
-returns-5 c = no-number _ _ _ (c .before .before .before .before .before .before .before .before .before .before .before .all-good .ensures) (c .before .before .before .before .before .before .before .before .before .before .if1 .left) _ (c .before .before .before .before .before .before .before .before .word-at .ensures) (c .before .before .before .before .before .before .before .if2 .left) _ (c .before .before .before .before .before .before .all-within .ensures) (c .before .before .before .before .before .if3 .left) _ (c .before .before .returns .ensures) (c .before .if4 .left) (c .if5 .taken)
+returns-5 c = no-number _ _ _ (c .before .before .before .before .before .before .before .before .before .all-good .ensures) (c .before .before .before .before .before .before .before .before .if1 .left) _ (c .before .before .before .before .before .before .word-at .ensures) (c .before .before .before .before .before .if2 .left) _ (c .before .before .before .before .all-within .ensures) (c .before .before .before .if3 .left) _ (c .before .before .returns .ensures) (c .before .if4 .left) (c .if5 .taken)
 
 returns-6 : tie.Need-returns-6
 unfolding goodSets
-returns-6 c = all-pass _ _ _ (c .before .before .before .before .before .before .before .before .before .before .before .all-good .ensures) (c .before .before .before .before .before .before .before .before .before .before .if1 .left) _ (c .before .before .before .before .before .before .before .before .word-at .ensures) (c .before .before .before .before .before .before .before .if2 .left) _ (c .before .before .before .before .before .before .all-within .ensures) (c .before .before .before .before .before .if3 .left) _ (c .before .before .returns .ensures) (c .before .if4 .left) (c .if5 .left)
+returns-6 c = all-pass _ _ _ (c .before .before .before .before .before .before .before .before .before .all-good .ensures) (c .before .before .before .before .before .before .before .before .if1 .left) _ (c .before .before .before .before .before .before .word-at .ensures) (c .before .before .before .before .before .if2 .left) _ (c .before .before .before .before .all-within .ensures) (c .before .before .before .if3 .left) _ (c .before .before .returns .ensures) (c .before .if4 .left) (c .if5 .left)
 
 pub isolate-verdict-spec : {M : Type 1} → statement M
 isolate-verdict-spec =
@@ -74,8 +67,6 @@ isolate-verdict-spec =
     returns-2
     all-within-requires
     returns-3
-    element-copy-out-returns
-    element-copy-out-returns-2
     returns-requires
     returns-4
     returns-5

@@ -1,0 +1,3 @@
+-- ---- laws of sets of addresses, and the promises
+pub mod SetLaws
+pub mod Promises

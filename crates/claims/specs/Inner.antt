@@ -1,0 +1,53 @@
+-- "Two outcomes allowed by one promise are proved equal", of the calls under the services that are public for another crate alone: sets read, what the caller reaches, tags written.
+use mathlib.Core.Path.{_≡_}
+use mathlib.Core.Bool.{Bool, _&&_}
+use mathlib.Core.List.{List, []}
+use Prim.Native.Nat.{ℕ, _+_, min}
+use Rattle.common.specs.AddressSets.{setAt, goodSet, inSet}
+use Rattle.rules.specs.State.{State, owns}
+use Rattle.rules.specs.Checks.{setsWithin, returns}
+use Rattle.rules.specs.Step.{owned, joined, joinedServices, joinAt}
+use Rattle.address_sets.specs.declared.Pair.{Pair}
+use Rattle.address_sets.specs.SetLaws.{pairOf, pairAt}
+use Rattle.address_sets.specs.Promises as sets
+use Rattle.reach.specs.Called.{asked}
+use Rattle.reach.specs.Promises as reach
+use Rattle.tags.specs.Promises as tags
+
+-- address_sets: pair_at, all_good, has, clipped
+pub pair-at-once : (words : List ℕ) (q j : ℕ) (r p : Pair) → pairOf r ≡ pairAt words (q + 1) j → pairOf p ≡ pairAt words (q + 1) j → r ≡ p
+pair-at-once = sets.pair-at-once
+
+pub all-good-once : (words : List ℕ) (n a j s : ℕ) (r p : Bool) → r ≡ (goodSet words n a && goodSet words n j && goodSet words n s)
+    → p ≡ (goodSet words n a && goodSet words n j && goodSet words n s) → r ≡ p
+all-good-once = sets.all-good-once
+
+pub has-once : (words : List ℕ) (q x : ℕ) (r p : Bool) → r ≡ inSet (setAt words q) x → p ≡ inSet (setAt words q) x → r ≡ p
+has-once = sets.has-once
+
+pub clipped-once : (past n len r p : ℕ) → r ≡ min (min past n) len → p ≡ min (min past n) len → r ≡ p
+clipped-once = sets.clipped-once
+
+-- reach: owns, all_within, returns
+pub owns-once : (n caller : ℕ) (owners : List ℕ) (x : ℕ) (r p : Bool) → r ≡ owns (asked n owners [] []) caller x → p ≡ owns (asked n owners [] []) caller x → r ≡ p
+owns-once = reach.owns-once
+
+pub all-within-once : (s : State) (caller : ℕ) (r p : Bool) → r ≡ setsWithin s caller → p ≡ setsWithin s caller → r ≡ p
+all-within-once = reach.all-within-once
+
+pub returns-once : (s : State) (caller : ℕ) (r p : Bool) → r ≡ returns s caller → p ≡ returns s caller → r ≡ p
+returns-once = reach.returns-once
+
+-- tags: own, join, join_at, with the memory of tags; join_services
+pub own-once : (owners words : List ℕ) (n q number : ℕ) (o p : List ℕ) → o ≡ owned n (setAt words q) number owners → p ≡ owned n (setAt words q) number owners → o ≡ p
+own-once = tags.own-once
+
+pub join-once : (sets words : List ℕ) (n q number : ℕ) (o p : List ℕ) → o ≡ joined n (setAt words q) number sets → p ≡ joined n (setAt words q) number sets → o ≡ p
+join-once = tags.join-once
+
+pub join-services-once : (services words : List ℕ) (q number : ℕ) (o p : List ℕ) → o ≡ joinedServices (setAt words q) number services
+    → p ≡ joinedServices (setAt words q) number services → o ≡ p
+join-services-once = tags.join-services-once
+
+pub join-at-once : (sets : List ℕ) (x number : ℕ) (o p : List ℕ) → o ≡ joinAt sets x number → p ≡ joinAt sets x number → o ≡ p
+join-at-once = tags.join-at-once

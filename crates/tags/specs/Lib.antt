@@ -1,0 +1,3 @@
+-- ---- laws of the tags, and the promises
+pub mod TagLaws
+pub mod Promises

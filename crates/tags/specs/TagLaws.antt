@@ -1,0 +1,183 @@
+-- Laws of the lists of tags, each changed at the places of a set: `owned` and `joined` are one change by place.
+use mathlib.Core.Path.{_≡_, refl, sym, ap, _∙_, subst}
+use mathlib.Core.Logic.{_≢_}
+use mathlib.Core.Bool.{Bool, true, false, cond, _&&_, _||_, and-false}
+use mathlib.Core.List.{List, [], _∷_}
+use Prim.Native.Nat.{ℕ, zero, suc, _+_, _<_, _≤_, min, max}
+use native.Mathlib.Nat.{le-of-suc-le-suc, not-suc-le-zero, suc-add, add-suc, add-zero, zero-add}
+use native.Mathlib.Decide.{ℕ-discrete}
+use native.Mathlib.Numerals.{add-one}
+use native.Mathlib.Omega.{arith}
+use borrow.Author.Tests.{le-leb, lt-ltb, leb-true, ltb-true}
+use lib.Dec.{leb, ltb}
+use lib.ListN.{getD, length, set, length-set}
+use lib.Seq.{ext-getD, getD-set-same, getD-set-other}
+use Rattle.common.specs.Tests.{both, bool-ext}
+use Rattle.common.specs.Services.{isolate}
+use Rattle.common.specs.AddressSets.{Pair, pairsAt, setAt, inPair, inSet}
+use Rattle.rules.specs.Compartments.{insert}
+use Rattle.rules.specs.Step.{mapFrom, below}
+use Rattle.address_sets.specs.SetLaws.{pairAt}
+
+-- one set, in which a number joins or not
+abbrev pub joinedIf : Bool → ℕ → ℕ → ℕ
+joinedIf joins set c = cond joins (insert set c) set
+
+-- ---- a change by place
+
+length-from : (f : ℕ → ℕ → ℕ) (k : ℕ) (l : List ℕ) → length (mapFrom f k l) ≡ length l
+unfolding mapFrom
+length-from f k [] = refl
+length-from f k (x ∷ xs) = ap suc (length-from f (suc k) xs)
+
+getD-from : (f : ℕ → ℕ → ℕ) (k : ℕ) (l : List ℕ) (i : ℕ) → i < length l → getD (mapFrom f k l) i 0 ≡ f (k + i) (getD l i 0)
+unfolding mapFrom
+getD-from f k [] i h = absurd (not-suc-le-zero h)
+getD-from f k (x ∷ xs) zero h = rw add-zero
+getD-from f k (x ∷ xs) (suc i) h = getD-from f (suc k) xs i (le-of-suc-le-suc h) ∙ ap (λ (m : ℕ). f m (getD xs i 0)) (suc-add k i ∙ sym (add-suc k i))
+
+-- g v in place of v where the test passes
+abbrev changeAt : (ℕ → Bool) → (ℕ → ℕ) → ℕ → ℕ → ℕ
+changeAt t g x v = cond (t x) (g v) v
+
+abbrev changed : (ℕ → Bool) → (ℕ → ℕ) → List ℕ → List ℕ
+changed t g l = mapFrom (changeAt t g) 0 l
+
+module _ (g : ℕ → ℕ) (l : List ℕ) where
+  length-changed : (t : ℕ → Bool) → length (changed t g l) ≡ length l
+  length-changed t = length-from (changeAt t g) 0 l
+
+  getD-changed : (t : ℕ → Bool) (i : ℕ) → i < length l → getD (changed t g l) i 0 ≡ changeAt t g i (getD l i 0)
+  getD-changed t i h = getD-from (changeAt t g) 0 l i h ∙ ap (λ (m : ℕ). changeAt t g m (getD l i 0)) (zero-add i)
+
+  -- a list is the changed one where it is so at each place
+  is-changed : (t : ℕ → Bool) (m : List ℕ) → length m ≡ length l → ((i : ℕ) → i < length l → getD m i 0 ≡ changeAt t g i (getD l i 0))
+      → m ≡ changed t g l
+  is-changed t m e h =
+      ext-getD 0 m (changed t g l) (e ∙ sym (length-changed t))
+      (λ i hi. let j : i < length l = subst (λ (x : ℕ). i < x) e hi in h i j ∙ sym (getD-changed t i j))
+
+  changed-none : (t : ℕ → Bool) → ((i : ℕ) → t i ≡ false) → l ≡ changed t g l
+  changed-none t h = is-changed t l refl (λ i hi. sym (ap (λ (b : Bool). cond b (g (getD l i 0)) (getD l i 0)) (h i)))
+
+  -- tests that agree at the list's places
+  changed-same : (t u : ℕ → Bool) → ((i : ℕ) → i < length l → t i ≡ u i) → changed t g l ≡ changed u g l
+  changed-same t u h =
+      is-changed u (changed t g l) (length-changed t)
+      (λ i hi. getD-changed t i hi ∙ ap (λ (b : Bool). cond b (g (getD l i 0)) (getD l i 0)) (h i hi))
+
+  -- at one place more
+  changed-set : (t u : ℕ → Bool) (a : ℕ) → a < length l → t a ≡ false → u a ≡ true → ((i : ℕ) → i ≢ a → u i ≡ t i)
+      → set (changed t g l) a (g (getD (changed t g l) a 0)) ≡ changed u g l
+  changed-set t u a h e f k =
+      is-changed u (set (changed t g l) a v) (length-set (changed t g l) a v ∙ length-changed t) (λ i hi. go i hi (ℕ-discrete i a))
+    where
+      v : ℕ
+      v = g (getD (changed t g l) a 0)
+
+      go : (i : ℕ) → i < length l → Dec (i ≡ a) → getD (set (changed t g l) a v) i 0 ≡ changeAt u g i (getD l i 0)
+      go i hi (yes q) =
+          subst (λ (m : ℕ). getD (set (changed t g l) a v) m 0 ≡ changeAt u g m (getD l m 0)) (sym q)
+          (let w : getD (changed t g l) a 0 ≡ getD l a 0 = getD-changed t a h ∙ ap (λ (b : Bool). cond b (g (getD l a 0)) (getD l a 0)) e in
+          getD-set-same (changed t g l) a v 0 (subst (λ (x : ℕ). a < x) (sym (length-changed t)) h) ∙ ap g w ∙ simp f)
+      go i hi (no q) = getD-set-other (changed t g l) a i v 0 q ∙ getD-changed t i hi ∙ simp (k i q)
+
+-- ---- one pair, walked from its first place on
+
+-- the places below n from first on, before x
+abbrev walked : ℕ → ℕ → ℕ → ℕ → Bool
+walked n first x = below n (record { first = first; past = x } ∷ [])
+
+is-walked : (n first x i : ℕ) → i < n → first ≤ i → i < x → walked n first x i ≡ true
+unfolding inSet
+is-walked n first x i h k l = simp (lt-ltb i n h, le-leb first i k, lt-ltb i x l)
+
+record Walked (n first x i : ℕ) : Type 0 where
+  inside : i < n
+  from : first ≤ i
+  before : i < x
+
+of-walked : (n first x i : ℕ) → walked n first x i ≡ true → Walked n first x i
+unfolding inSet
+of-walked n first x i h =
+    let a = both (ltb i n) (leb first i && ltb i x) h in
+    let b = both (leb first i) (ltb i x) (a .1) in
+    record { inside = ltb-true i n (a .0); from = leb-true first i (b .0); before = ltb-true i x (b .1) }
+
+not-walked : (n first x i : ℕ) → (Walked n first x i → ⊥) → walked n first x i ≡ false
+not-walked n first x i h = go (walked n first x i) refl
+  where
+    go : (b : Bool) → walked n first x i ≡ b → walked n first x i ≡ false
+    go true e = absurd (h (of-walked n first x i e))
+    go false e = e
+
+-- two walks agree at a place that both have passed, or neither
+same-walked : (n first x y i : ℕ) → (i < n → first ≤ i → i < x → i < y) → (i < n → first ≤ i → i < y → i < x) → walked n first x i ≡ walked n first y i
+same-walked n first x y i f g =
+    bool-ext (walked n first x i) (walked n first y i)
+    (λ h. let w = of-walked n first x i h in is-walked n first y i (w .inside) (w .from) (f (w .inside) (w .from) (w .before)))
+    (λ h. let w = of-walked n first y i h in is-walked n first x i (w .inside) (w .from) (g (w .inside) (w .from) (w .before)))
+
+module _ (g : ℕ → ℕ) (l : List ℕ) (n first : ℕ) where
+  pub walk-starts : l ≡ changed (walked n first first) g l
+  walk-starts = changed-none g l (walked n first first) (λ i. not-walked n first first i (λ w. omega arith))
+
+  pub walk-goes : (x : ℕ) → first ≤ x → x < n → x < length l
+      → set (changed (walked n first x) g l) x (g (getD (changed (walked n first x) g l) x 0)) ≡ changed (walked n first (x + 1)) g l
+  walk-goes x h k a =
+      changed-set g l (walked n first x) (walked n first (x + 1)) x a (not-walked n first x x (λ w. omega arith)) (is-walked n first (x + 1) x k h (omega arith))
+      (λ i ne. same-walked n first (x + 1) x i (λ p q r. omega arith) (λ p q r. omega arith))
+
+  -- past the clipped end the walk has been over the whole pair
+  pub walk-ends : (past x : ℕ) → min (min past n) (length l) ≤ x → x ≤ max first (min (min past n) (length l))
+      → changed (walked n first x) g l ≡ changed (walked n first past) g l
+  walk-ends past x h k =
+      changed-same g l (walked n first x) (walked n first past)
+      (λ i hi. same-walked n first x past i (λ p q r. omega arith) (λ p q r. omega arith))
+
+-- ---- pair by pair
+
+module _ (g : ℕ → ℕ) (twice : (v : ℕ) → g (g v) ≡ g v) (l : List ℕ) (n : ℕ) where
+  pair-more : (p : Pair) (ps : List Pair) → changed (below n (p ∷ [])) g (changed (below n ps) g l) ≡ changed (below n (p ∷ ps)) g l
+  unfolding inSet
+  pair-more p ps =
+      is-changed g l (below n (p ∷ ps)) (changed (below n (p ∷ [])) g (changed (below n ps) g l)) (length-changed g (changed (below n ps) g l) (below n (p ∷ [])) ∙ length-changed g l (below n ps))
+      (λ i hi.
+      getD-changed g (changed (below n ps) g l) (below n (p ∷ [])) i (subst (λ (x : ℕ). i < x) (sym (length-changed g l (below n ps))) hi)
+      ∙ ap (changeAt (below n (p ∷ [])) g i) (getD-changed g l (below n ps) i hi)
+      ∙ go (ltb i n) (inSet ps i) (inPair p i) (getD l i 0))
+    where
+      go : (m a b : Bool) (v : ℕ) → cond (m && b) (g (cond (m && a) (g v) v)) (cond (m && a) (g v) v) ≡ cond (m && (a || b)) (g v) v
+      go false a b v = refl
+      go true true true v = twice v
+      go true true false v = refl
+      go true false true v = refl
+      go true false false v = refl
+
+  module _ (words : List ℕ) (q : ℕ) where
+    pub set-starts : l ≡ changed (below n (pairsAt words (q + 1) 0)) g l
+    unfolding pairsAt inSet
+    set-starts = changed-none g l (below n []) (λ i. and-false (ltb i n))
+
+    pub set-goes : (j : ℕ) (p : Pair) → p ≡ pairAt words (q + 1) j
+        → changed (below n (p ∷ [])) g (changed (below n (pairsAt words (q + 1) j)) g l) ≡ changed (below n (pairsAt words (q + 1) (j + 1))) g l
+    unfolding pairsAt
+    set-goes j p e =
+        pair-more p (pairsAt words (q + 1) j)
+        ∙ ap (λ (r : Pair). changed (below n (r ∷ pairsAt words (q + 1) j)) g l) e
+        ∙ ap (λ (k : ℕ). changed (below n (pairsAt words (q + 1) k)) g l) (sym (add-one j))
+
+    pub set-ends : (j : ℕ) → j ≡ getD words q 0 → changed (below n (pairsAt words (q + 1) j)) g l ≡ changed (below n (setAt words q)) g l
+    unfolding setAt
+    set-ends j e = ap (λ (k : ℕ). changed (below n (pairsAt words (q + 1) k)) g l) e
+
+-- ---- the services
+
+pub three-services : (has : ℕ → Bool) (c : ℕ) (sets : List ℕ) → length sets ≡ 3
+    → (joinedIf (has 4096) (getD sets 0 0) c ∷ joinedIf (has 4097) (getD sets 1 0) c ∷ joinedIf (has 4098) (getD sets 2 0) c ∷ []) ≡ mapFrom (λ i set. cond (has (isolate + i)) (insert set c) set) 0 sets
+unfolding mapFrom
+three-services has c [] e = absurd (omega arith)
+three-services has c (x ∷ []) e = absurd (omega arith)
+three-services has c (x ∷ y ∷ []) e = absurd (omega arith)
+three-services has c (x ∷ y ∷ z ∷ []) e = refl
+three-services has c (x ∷ y ∷ z ∷ w ∷ ws) e = absurd (omega arith)
