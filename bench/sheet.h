@@ -25,4 +25,13 @@ uint32_t sheet_encode(uint32_t op, uint32_t a, uint32_t b, uint32_t low, uint32_
 uint32_t sheet_write(const uint32_t *words, size_t words_len, const uint32_t regs[16], uint32_t entry,
                      uint8_t *out, size_t out_len, size_t *length);
 
+/* ---- sheet_counts.c ---- */
+uint32_t sheet_owned(const kl_processor *cpu, const uint32_t *owners, size_t owners_len, uint32_t number);
+
+uint32_t sheet_jumps(const kl_processor *cpu, const uint64_t *jumpers, size_t jumpers_len, uint32_t number);
+
+uint32_t sheet_stores(const kl_processor *cpu, const uint64_t *writers, size_t writers_len, uint32_t number);
+
+uint32_t sheet_widest(const kl_processor *cpu, const uint64_t *writers, size_t writers_len);
+
 #endif

@@ -239,3 +239,34 @@ void programs_case(void)
         if (check_run(&ours, &sheet, one_in(4) ? below(3000) : below(200)).answer != 0) break;
     check_step(&ours, &sheet);
 }
+
+/* ---- the counts ---- */
+
+/* Long lists, with N and their ends around the services' addresses. */
+void fixed_counts(void)
+{
+    enum { LONG = 4104 };
+    static uint32_t owners[LONG];
+    static uint64_t jumpers[LONG], writers[LONG];
+    noise(&sheet, 0);
+    for (uint32_t x = 0; x < LONG; x++) owners[x] = below(70), jumpers[x] = roll(), writers[x] = roll() & roll();
+    for (uint32_t n = ISOLATE - 1; n <= ADD_STORE + 2; n++)
+        for (size_t length = ISOLATE - 1; length <= ADD_STORE + 2; length++) {
+            sheet.cpu.n = n;
+            check_counted(&(counted){&sheet.cpu, owners, jumpers, writers, {0, length, length, length}});
+        }
+}
+
+/* Memories of any lengths and any N, besides states that 14 lets pass. */
+void counts_case(void)
+{
+    make_state(&sheet, some_size());
+    const uint32_t most = (uint32_t)(sheet.kept - GUARD), kind = below(6);
+    for (int m = 0; m < MEMORIES; m++)
+        if (kind > 0) sheet.lent[m] = below(most + 1);
+    if (kind == 1) sheet.cpu.n = below(most + 4);
+    if (kind == 2) sheet.cpu.n = between(ISOLATE - 1, ADD_STORE + 2);
+    if (kind == 3) sheet.cpu.n = any_number();
+    begin();
+    check_counts(&ours, &sheet);
+}

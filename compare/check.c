@@ -7,7 +7,7 @@
 #include <stdlib.h>
 #include <string.h>
 
-enum { ANSWERS = 32, LISTED = 40 };
+enum { ANSWERS = 32, LISTED = 40, COUNTED = 8 }; /* COUNTED: one in so many states has its counts compared */
 #define ALONE SIZE_MAX /* the place of a value that is not one of many */
 
 static struct {
@@ -35,9 +35,13 @@ void begin_case(uint64_t number)
 
 uint64_t end_kind(void)
 {
-    printf("%-9s %10" PRIu64 " cases; answers", now.kind, now.cases);
-    for (int a = 0; a < ANSWERS; a++)
-        if (now.by_answer[a] != 0) printf(" %d:%" PRIu64, a, now.by_answer[a]);
+    const char *lead = "; answers ";
+    printf("%-9s %10" PRIu64 " cases", now.kind, now.cases);
+    for (int a = 0; a < ANSWERS; a++) {
+        if (now.by_answer[a] == 0) continue;
+        printf("%s%d:%" PRIu64, lead, a, now.by_answer[a]);
+        lead = " ";
+    }
     printf("\n");
     fflush(stdout);
     return now.cases;
@@ -146,6 +150,75 @@ static bool same_from(const state *a, const state *b, const size_t from[MEMORIES
 
 static const size_t WHOLE[MEMORIES] = {0};
 
+/* ---- the counts ---- */
+
+static counted counted_of(const state *s)
+{
+    counted c = {&s->cpu, s->owners, s->jumpers, s->writers, {0}};
+    memcpy(c.lent, s->lent, sizeof c.lent);
+    return c;
+}
+
+static void settle_count(const char *call, const counted *c, size_t number, uint32_t ours, uint32_t sheet)
+{
+    if (ours == sheet) return;
+    begin_report(call);
+    if (number != ALONE) printf("  of compartment %zu\n", number);
+    show("count", ALONE, ours, sheet);
+    show_record("record", c->cpu);
+    printf("lent lengths: owners %zu jumpers %zu writers %zu\n", c->lent[OWNERS], c->lent[JUMPERS], c->lent[WRITERS]);
+    for (size_t x = 0; x < c->lent[OWNERS]; x++) printf("%zu: owner %" PRIX32 "\n", x, c->owners[x]);
+    for (size_t x = 0; x < c->lent[JUMPERS]; x++) printf("%zu: jumpers %016" PRIX64 "\n", x, c->jumpers[x]);
+    for (size_t x = 0; x < c->lent[WRITERS]; x++) printf("%zu: writers %016" PRIX64 "\n", x, c->writers[x]);
+    end_report();
+}
+
+static void compare_number(const counted *a, const counted *b, uint32_t number)
+{
+    settle_count("kl_owned", b, number, kl_owned(a->cpu, a->owners, a->lent[OWNERS], number),
+                 sheet_owned(b->cpu, b->owners, b->lent[OWNERS], number));
+    settle_count("kl_jumps", b, number, kl_jumps(a->cpu, a->jumpers, a->lent[JUMPERS], number),
+                 sheet_jumps(b->cpu, b->jumpers, b->lent[JUMPERS], number));
+    settle_count("kl_stores", b, number, kl_stores(a->cpu, a->writers, a->lent[WRITERS], number),
+                 sheet_stores(b->cpu, b->writers, b->lent[WRITERS], number));
+}
+
+/* For every compartment, for numbers that are none, and for the first owner, which may be none either. */
+static void compare_counted(const counted *a, const counted *b)
+{
+    for (uint32_t c = 0; c < 66; c++) compare_number(a, b, c);
+    compare_number(a, b, UINT32_MAX);
+    if (b->lent[OWNERS] > 0) compare_number(a, b, b->owners[0]);
+    settle_count("kl_widest", b, ALONE, kl_widest(a->cpu, a->writers, a->lent[WRITERS]),
+                 sheet_widest(b->cpu, b->writers, b->lent[WRITERS]));
+}
+
+/* The states are equal before, and must be after. */
+static void compare_counts(const state *ours, const state *sheet)
+{
+    const counted a = counted_of(ours), b = counted_of(sheet);
+    compare_counted(&a, &b);
+    if (same_record(&ours->cpu, &sheet->cpu) && same_from(ours, sheet, WHOLE)) return;
+    begin_report("a count, which must change nothing");
+    show_differences(ours, sheet);
+    show_state(sheet);
+    end_report();
+}
+
+void check_counts(const state *ours, const state *sheet)
+{
+    count_case(ANSWERS);
+    compare_counts(ours, sheet);
+}
+
+void check_counted(const counted *lent)
+{
+    count_case(ANSWERS);
+    compare_counted(lent, lent);
+}
+
+/* ---- what is left ---- */
+
 /* Compares what the two sides told and left. On the sheet's side it looks, too, that no guard moved and that what
    the sheet says is kept was kept: the memories by `keeps_memories`, the record by `keeps_record`. */
 static void settle(const char *call, const state *before, const state *ours, const state *sheet, told a, told b,
@@ -156,7 +229,10 @@ static void settle(const char *call, const state *before, const state *ours, con
                       same_from(ours, sheet, WHOLE);
     const bool sound = same_from(sheet, before, keeps_memories ? WHOLE : sheet->lent) &&
                        (!keeps_record || same_record(&sheet->cpu, &before->cpu));
-    if (same && sound) return;
+    if (same && sound) {
+        if (now.cases % COUNTED == 0) compare_counts(ours, sheet);
+        return;
+    }
     begin_report(call);
     if (!sound) printf("  the C side of the comparison changed what it must keep: the fault is in sheet.c\n");
     show("answer", ALONE, a.answer, b.answer);

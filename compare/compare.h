@@ -19,6 +19,14 @@ typedef struct state {
     uint64_t jumpers[ROOM], writers[ROOM];
 } state;
 
+/* What the counts are lent. */
+typedef struct counted {
+    const kl_processor *cpu;
+    const uint32_t *owners;
+    const uint64_t *jumpers, *writers;
+    size_t lent[MEMORIES];
+} counted;
+
 /* What a call told beside what it left. */
 typedef struct told {
     uint32_t answer, count;
@@ -52,6 +60,8 @@ uint32_t check_load(state *ours, state *sheet, const uint8_t *bytes, size_t leng
 void check_decode(uint32_t word);
 void check_encode(uint32_t op, uint32_t a, uint32_t b, uint32_t low);
 void check_write(const uint32_t *words, size_t n, const uint32_t regs[16], uint32_t entry, size_t out_len);
+void check_counts(const state *ours, const state *sheet); /* the four, for every compartment and some that are none */
+void check_counted(const counted *lent);                  /* the same, both sides lent the same */
 void copy_state(state *to, const state *from);
 void expect(const char *what, uint64_t ours, uint64_t sheet, uint64_t wanted); /* by the sheet's own lines */
 void begin_kind(const char *name, uint64_t seed);
@@ -63,6 +73,7 @@ void fixed_words(void);
 void fixed_images(void);
 void fixed_writes(void);
 void fixed_services(void);
+void fixed_counts(void);
 void words_case(void);
 void images_case(void);
 void writes_case(void);
@@ -70,6 +81,7 @@ void states_case(void);
 void refused_case(void);
 void services_case(void);
 void programs_case(void);
+void counts_case(void);
 void sheet_lines(void);
 
 #endif

@@ -34,28 +34,22 @@ static void runs(const char *line, uint32_t budget, uint32_t answer, uint32_t co
     expect(line, ours.cpu.pc, sheet.cpu.pc, pc);
 }
 
-static uint64_t ones_of(const state *s, const uint64_t *sets, uint32_t c)
-{
-    uint64_t ones = 0;
-    for (uint32_t x = 0; x < s->cpu.n; x++) ones += sets[x] >> c & 1;
-    if (sets == s->jumpers)
-        for (int i = 0; i < 3; i++) ones += s->cpu.services[i] >> c & 1;
-    return ones;
-}
-
-static uint64_t owned_by(const state *s, uint32_t c)
-{
-    uint64_t owned = c >= 1 && c <= 3;
-    for (uint32_t x = 0; x < s->cpu.n; x++) owned += s->owners[x] == c;
-    return owned;
-}
-
 /* A line of the run program: number, addresses owned, in J, in S. */
 static void row(uint32_t c, uint32_t owned, uint32_t jump, uint32_t store)
 {
-    expect("addresses owned", owned_by(&ours, c), owned_by(&sheet, c), owned);
-    expect("addresses in J", ones_of(&ours, ours.jumpers, c), ones_of(&sheet, sheet.jumpers, c), jump);
-    expect("addresses in S", ones_of(&ours, ours.writers, c), ones_of(&sheet, sheet.writers, c), store);
+    const state *a = &ours, *b = &sheet;
+    expect("addresses owned", kl_owned(&a->cpu, a->owners, a->lent[OWNERS], c),
+           sheet_owned(&b->cpu, b->owners, b->lent[OWNERS], c), owned);
+    expect("addresses in J", kl_jumps(&a->cpu, a->jumpers, a->lent[JUMPERS], c),
+           sheet_jumps(&b->cpu, b->jumpers, b->lent[JUMPERS], c), jump);
+    expect("addresses in S", kl_stores(&a->cpu, a->writers, a->lent[WRITERS], c),
+           sheet_stores(&b->cpu, b->writers, b->lent[WRITERS], c), store);
+}
+
+static void widest(uint32_t wanted)
+{
+    expect("widest", kl_widest(&ours.cpu, ours.writers, ours.lent[WRITERS]),
+           sheet_widest(&sheet.cpu, sheet.writers, sheet.lent[WRITERS]), wanted);
 }
 
 static void decodes(uint32_t word, uint32_t answer, uint32_t op, uint32_t a, uint32_t b, uint32_t low)
@@ -105,6 +99,7 @@ static void image_one(void)
     runs("image one", 100000, 3, 3, 3);
     row(0, 4, 3, 0);
     for (uint32_t c = 1; c < 4; c++) row(c, 1, 4, 0);
+    widest(0);
     expect("prev", ours.cpu.prev, sheet.cpu.prev, 0);
     expect("jumped", ours.cpu.jumped, sheet.cpu.jumped, 0);
     expect("next", ours.cpu.next, sheet.cpu.next, 4);
@@ -130,8 +125,11 @@ static void image_two_lines(void)
     row(0, 12, 3, 0);
     for (uint32_t c = 1; c < 4; c++) row(c, 1, 13, 0);
     row(4, 1, 0, 0);
+    widest(0);
     image_two(STORE_(5, 1), 4098);
     runs("image two after 12 was added as a store target", 100000, 1, 8, 7);
+    row(0, 12, 3, 1);
+    widest(1);
     image_two(BNZ_(5, 6), 0);
     runs("Bnz to 12", 100000, 4, 8, 12);
     image_two(BNZ_(5, 6), 4097);

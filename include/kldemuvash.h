@@ -10,6 +10,7 @@
 
    Every call takes any values and always returns. Each answer is one number; 0 means done. A call that
    answers another number leaves everything it was lent as it was, except where its comment says more.
+   The four counts (kl_owned, kl_jumps, kl_stores, kl_widest) answer a count and change nothing.
    What the host owes: each pointer is not null and points at as many places as its length says (also
    where the length is 0), what is lent to one call does not overlap, and `jumped` is true or false.
 
@@ -90,6 +91,23 @@ uint32_t kl_encode(uint32_t op, uint32_t a, uint32_t b, uint32_t low, uint32_t *
    is too short; then *length is 0 and `out` is as it was. 8,272 bytes are enough for every image. */
 uint32_t kl_write(const uint32_t *words, size_t words_len, const uint32_t regs[16], uint32_t entry,
                   uint8_t *out, size_t out_len, size_t *length);
+
+/* Counts the addresses that compartment `number` owns: the places whose owner it is, and its service (4096
+   is 1's, 4097 is 2's, 4098 is 3's). In each of the four counts a place is looked at where it is below n and
+   below the length lent, and a service where n does not reach its address, so that each address counts once. */
+uint32_t kl_owned(const kl_processor *cpu, const uint32_t *owners, size_t owners_len, uint32_t number);
+
+/* Counts the addresses in J of compartment `number`: the places and the services with it in their set I,
+   whoever owns them. A number from 64 on is in no set: 0. */
+uint32_t kl_jumps(const kl_processor *cpu, const uint64_t *jumpers, size_t jumpers_len, uint32_t number);
+
+/* Counts the addresses in S of compartment `number`: the places with it in their set W, whoever owns them.
+   A service has no W. A number from 64 on is in no set: 0. */
+uint32_t kl_stores(const kl_processor *cpu, const uint64_t *writers, size_t writers_len, uint32_t number);
+
+/* Counts the compartments in the largest set W of a place: how many may write to the most widely writable
+   word. 0 where no place is looked at. */
+uint32_t kl_widest(const kl_processor *cpu, const uint64_t *writers, size_t writers_len);
 
 #ifdef __cplusplus
 }

@@ -2,4 +2,5 @@
 pub mod Demands
 pub mod Promises
 pub mod Inner
+pub mod Counts
 pub mod Code

@@ -1,4 +1,4 @@
--- The sheet's promises: the lines marked P, each number on its condition, a run's budget and count, places from N on, one outcome for every public call, and the four idle programs.
+-- The sheet's promises: the lines marked P, each number on its condition, a run's budget and count, places from N on, one outcome for every public call but the counts, and the four idle programs.
 use mathlib.Core.Path.{_≡_, refl, sym, ap, _∙_}
 use mathlib.Core.Bool.{Bool, true, false, cond, _&&_, not}
 use mathlib.Core.List.{List, [], _∷_}
@@ -52,8 +52,6 @@ use Rattle.machine.specs.Promises as machine
 use Rattle.machine.specs.Promises.{Left}
 use Rattle.images.specs.Promises as images
 use Rattle.images.specs.Promises.{lent, loadedOf, writtenOf}
-use Rattle.rules.specs.Counts.{ownedCount, jumpCount, storeCount, widest}
-use Rattle.report.specs.Promises as report
 use Rattle.host.specs.Promises as host
 use Rattle.host.specs.Promises.{loadedBy, steppedBy, ranBy, DecodeOutcome, encodedBy, writtenBy}
 
@@ -262,8 +260,8 @@ nothing-read budget s t ls lt e =
     (record { cpu = e .0; words = e .1; owners = e .2; jumpers = e .3; writers = e .4 }) in
     (r .answer, r .count, (r .state .cpu, r .state .words, r .state .owners, r .state .jumpers, r .state .writers))
 
--- ==== "Two outcomes allowed by one promise are proved equal": every public call. An outcome is what the call hands back
--- and every memory that it may change, at exit; the two premises are the call's contract, twice.
+-- ==== "Two outcomes allowed by one promise are proved equal": every public call; those that count are in Counts. An outcome
+-- is what the call hands back and every memory that it may change, at exit; the two premises are the call's contract, twice.
 
 -- compartments::Set: none, of_services, contains, insert, count, lowest
 pub none-once : (r q : Set) → r .0 ≡ empty → q .0 ≡ empty → r ≡ q
@@ -328,22 +326,6 @@ load-once = images.load-once
 pub write-once : (words regs : List ℕ) (entry : ℕ) (out : List ℕ) (o p : images.WriteOutcome)
     → writtenOf (o .result) (o .out) ≡ write words regs entry out → writtenOf (p .result) (p .out) ≡ write words regs entry out → o ≡ p
 write-once = images.write-once
-
--- report: owned, jumps, stores, widest, which are lent one memory each and change nothing
-pub owned-once : (cpu : Processor) (owners : List ℕ) (c r q : ℕ)
-    → r ≡ ownedCount (stateOf cpu [] owners [] []) c → q ≡ ownedCount (stateOf cpu [] owners [] []) c → r ≡ q
-owned-once = report.owned-once
-
-pub jumps-once : (cpu : Processor) (jumpers : List ℕ) (c r q : ℕ)
-    → r ≡ jumpCount (stateOf cpu [] [] jumpers []) c → q ≡ jumpCount (stateOf cpu [] [] jumpers []) c → r ≡ q
-jumps-once = report.jumps-once
-
-pub stores-once : (cpu : Processor) (writers : List ℕ) (c r q : ℕ)
-    → r ≡ storeCount (stateOf cpu [] [] [] writers) c → q ≡ storeCount (stateOf cpu [] [] [] writers) c → r ≡ q
-stores-once = report.stores-once
-
-pub widest-once : (cpu : Processor) (writers : List ℕ) (r q : ℕ) → r ≡ widest (stateOf cpu [] [] [] writers) → q ≡ widest (stateOf cpu [] [] [] writers) → r ≡ q
-widest-once = report.widest-once
 
 -- host: kl_load, kl_step, kl_run, with the record and the four memories, and for kl_run the count
 pub kl-load-once : (bytes words owners jumpers writers : List ℕ) (o p : host.Outcome)

@@ -8,9 +8,11 @@ use Rattle.rules.specs.State.{State}
 use Rattle.rules.specs.Step as step
 use Rattle.rules.specs.Run as run
 use Rattle.rules.specs.Images as images
+use Rattle.rules.specs.Counts.{ownedCount, jumpCount, storeCount, widest}
 use Rattle.machine.specs.Views.{stateOf, processorOf}
 use Rattle.machine.specs.declared.Processor.{Processor}
 use Rattle.images.specs.Promises.{lent}
+use Rattle.report.specs.Promises as report
 
 -- ---- what the contracts see
 
@@ -142,3 +144,17 @@ pub write-once : (words regs : List ℕ) (entry : ℕ) (out : List ℕ) (o p : W
     → write-view .seen p ≡ images.write words regs entry out
     → o ≡ p
 write-once words regs entry out o p = once write-view (images.write words regs entry out) o p
+
+-- ---- the counts, which change nothing: each promises what report's does, of the record lent
+
+pub owned-once : (cpu : Processor) (owners : List ℕ) (number r q : ℕ) → r ≡ ownedCount (stateOf cpu [] owners [] []) number → q ≡ ownedCount (stateOf cpu [] owners [] []) number → r ≡ q
+owned-once = report.owned-once
+
+pub jumps-once : (cpu : Processor) (jumpers : List ℕ) (number r q : ℕ) → r ≡ jumpCount (stateOf cpu [] [] jumpers []) number → q ≡ jumpCount (stateOf cpu [] [] jumpers []) number → r ≡ q
+jumps-once = report.jumps-once
+
+pub stores-once : (cpu : Processor) (writers : List ℕ) (number r q : ℕ) → r ≡ storeCount (stateOf cpu [] [] [] writers) number → q ≡ storeCount (stateOf cpu [] [] [] writers) number → r ≡ q
+stores-once = report.stores-once
+
+pub widest-once : (cpu : Processor) (writers : List ℕ) (r q : ℕ) → r ≡ widest (stateOf cpu [] [] [] writers) → q ≡ widest (stateOf cpu [] [] [] writers) → r ≡ q
+widest-once = report.widest-once

@@ -1,9 +1,11 @@
 // The calls of a host program, which keeps one processor record and lends it to each.
 ghost use mathlib.Core.Path.{_≡_};
+ghost use mathlib.Core.List.{[]};
 ghost use Rattle.common.specs.Words.{decode, encode};
 ghost use Rattle.rules.specs.Step.{step};
 ghost use Rattle.rules.specs.Run.{run};
 ghost use Rattle.rules.specs.Images.{load, write};
+ghost use Rattle.rules.specs.Counts.{ownedCount, jumpCount, storeCount, widest};
 ghost use Rattle.machine.specs.Views.{stateOf};
 ghost use Rattle.images.specs.Promises.{lent};
 ghost use Rattle.host.specs.Promises.{loadedBy, steppedBy, ranBy, decodedBy, laidOut, encodedBy, writtenBy};
@@ -95,4 +97,36 @@ pub extern "C" fn kl_write(
     let w = images::write(words, regs, entry, out);
     *length = w.length;
     w.answer
+}
+
+// The addresses that a compartment owns, services counted.
+#[no_mangle]
+pub extern "C" fn kl_owned(cpu: &Processor, owners: &[u32], number: u32) -> u32
+    ensures { λ r. ⌜ r ≡ ownedCount (stateOf (now (cpu .entry)) [] (now (owners .entry)) [] []) number ⌝ }
+{
+    report::owned(*cpu, owners, number)
+}
+
+// The addresses that a compartment may jump to, services counted.
+#[no_mangle]
+pub extern "C" fn kl_jumps(cpu: &Processor, jumpers: &[u64], number: u32) -> u32
+    ensures { λ r. ⌜ r ≡ jumpCount (stateOf (now (cpu .entry)) [] [] (now (jumpers .entry)) []) number ⌝ }
+{
+    report::jumps(*cpu, jumpers, number)
+}
+
+// The addresses that a compartment may store to. No service is among them.
+#[no_mangle]
+pub extern "C" fn kl_stores(cpu: &Processor, writers: &[u64], number: u32) -> u32
+    ensures { λ r. ⌜ r ≡ storeCount (stateOf (now (cpu .entry)) [] [] [] (now (writers .entry))) number ⌝ }
+{
+    report::stores(*cpu, writers, number)
+}
+
+// The most compartments that may write to any one word below N.
+#[no_mangle]
+pub extern "C" fn kl_widest(cpu: &Processor, writers: &[u64]) -> u32
+    ensures { λ r. ⌜ r ≡ widest (stateOf (now (cpu .entry)) [] [] [] (now (writers .entry))) ⌝ }
+{
+    report::widest(*cpu, writers)
 }
