@@ -20,9 +20,9 @@ find_kit() {
     kit=$(cd "$(dirname "$guide")/.." && pwd)
 }
 
-# Sets `compiler`, `link` (its words for linking) and `emulator` (empty on x86-64).
+# Sets `compiler`, `options` and `link` (its words for compiling and for linking) and `emulator` (empty on x86-64).
 find_tools() {
-    compiler='gcc' link='' emulator=''
+    compiler='gcc' options='' link='' emulator=''
     if [ "$(uname -m)" = x86_64 ]; then
         command -v "$compiler" >/dev/null ||
             missing "the C compiler gcc was not found" "on Debian: apt-get install gcc libc6-dev"
@@ -50,13 +50,24 @@ find_library() {
     fi
 }
 
+# Has every function of both sides start on a page of its own. An emulator pays for jumps from page to page, and the
+# times would else hang on where the linker happens to put a loop.
+align_pages() { # NAME
+    local aligned=$root/target/$1/libhost.a
+    mkdir -p "$root/target/$1"
+    "${compiler%gcc}objcopy" --set-section-alignment '.text.*=4096' "$library" "$aligned" ||
+        missing "${compiler%gcc}objcopy could not align the library" "it comes with the compiler, in binutils 2.33 or later"
+    library=$aligned
+    options='-falign-functions=4096'
+}
+
 # Compiles FILES with the library to target/NAME/NAME, and sets `program`.
 build() { # NAME FILES
     program=$root/target/$1/$1
     mkdir -p "$root/target/$1"
     say "compiling $1 with $compiler -O3"
     # shellcheck disable=SC2086
-    "$compiler" -O3 -std=c11 -Wall -Wextra $link -I "$root/include" -I "$root/bench" \
+    "$compiler" -O3 -std=c11 -Wall -Wextra $options $link -I "$root/include" -I "$root/bench" \
         -o "$program" "${@:2}" "$library" ||
         missing "$compiler could not compile or link $1: its lines above say why" \
             "if the C library is missing, on Debian: apt-get install libc6-dev (or libc6-dev-amd64-cross)"

@@ -1,4 +1,4 @@
--- "Two outcomes allowed by one promise are proved equal", of the calls under the services that are public for another crate alone: sets read, what the caller reaches, tags written.
+-- "Two outcomes allowed by one promise are proved equal", of the calls that are public for another crate alone: sets read, what the caller reaches, tags written, check 14, a step at a service.
 use mathlib.Core.Path.{_≡_}
 use mathlib.Core.Bool.{Bool, _&&_}
 use mathlib.Core.List.{List, []}
@@ -13,6 +13,13 @@ use Rattle.address_sets.specs.Promises as sets
 use Rattle.reach.specs.Called.{asked}
 use Rattle.reach.specs.Promises as reach
 use Rattle.tags.specs.Promises as tags
+use Rattle.memory.specs.Places.{putReg, putWord}
+use Rattle.memory.specs.Promises as memory
+use Rattle.form.specs.Form.{formedBy}
+use Rattle.form.specs.Form as form
+use Rattle.service.specs.declared.Served.{Served}
+use Rattle.service.specs.Served.{servedOf, serving}
+use Rattle.service.specs.Promises as service
 
 -- address_sets: pair_at, all_good, has, clipped
 pub pair-at-once : (words : List ℕ) (q j : ℕ) (r p : Pair) → pairOf r ≡ pairAt words (q + 1) j → pairOf p ≡ pairAt words (q + 1) j → r ≡ p
@@ -51,3 +58,20 @@ join-services-once = tags.join-services-once
 
 pub join-at-once : (sets : List ℕ) (x number : ℕ) (o p : List ℕ) → o ≡ joinAt sets x number → p ≡ joinAt sets x number → o ≡ p
 join-at-once = tags.join-at-once
+
+-- memory: put_reg, put_word, with the registers and the words at exit
+pub put-reg-once : (regs : List ℕ) (rd value : ℕ) (r q : List ℕ) → r ≡ putReg regs rd value → q ≡ putReg regs rd value → r ≡ q
+put-reg-once = memory.put-reg-once
+
+pub put-word-once : (words : List ℕ) (n place word : ℕ) (r q : List ℕ) → r ≡ putWord words n place word → q ≡ putWord words n place word → r ≡ q
+put-word-once = memory.put-word-once
+
+-- form: is_formed
+pub is-formed-once : (n pc prev next words owners jumpers writers : ℕ) (r q : Bool) → r ≡ formedBy n pc prev next words owners jumpers writers
+    → q ≡ formedBy n pc prev next words owners jumpers writers → r ≡ q
+is-formed-once = form.is-formed-once
+
+-- service: serve, with the owners, jumpers and writers at exit
+pub serve-once : (s : State) (o p : Served × List ℕ × List ℕ × List ℕ) → servedOf (o .0) (o .1) (o .2) (o .3) ≡ serving s → servedOf (p .0) (p .1) (p .2) (p .3) ≡ serving s
+    → o ≡ p
+serve-once = service.serve-once

@@ -36,10 +36,11 @@ use Rattle.compartments.specs.declared.Set.{Set}
 use Rattle.compartments.specs.Promises as sets
 use Rattle.instructions.specs.declared.Decoded.{Decoded}
 use Rattle.instructions.specs.declared.Encoded.{Encoded}
+use Rattle.instructions.specs.Masks.{fitsIn, fieldsOf}
 use Rattle.instructions.specs.Promises as instructions
 use Rattle.memory.specs.Promises as memory
 use Rattle.moves.specs.declared.Move.{Move}
-use Rattle.moves.specs.Moves.{moveOf}
+use Rattle.moves.specs.Moves.{moveFrom}
 use Rattle.moves.specs.Promises as moves
 use Rattle.monitor.specs.declared.Isolated.{Isolated}
 use Rattle.monitor.specs.Outcomes.{isolatingOf, isolating, addingOf, adding}
@@ -282,7 +283,13 @@ count-once = sets.count-once
 pub lowest-once : (self : Set) (r q : ℕ) → r ≡ lowest (self .0) → q ≡ lowest (self .0) → r ≡ q
 lowest-once = sets.lowest-once
 
--- instructions: decode, encode
+-- instructions: fits, fields, decode, encode
+pub fits-once : (word op : ℕ) (r q : Bool) → r ≡ fitsIn word op → q ≡ fitsIn word op → r ≡ q
+fits-once = instructions.fits-once
+
+pub fields-once : (word : ℕ) (r q : Decoded) → instructions.decoded r ≡ fieldsOf word → instructions.decoded q ≡ fieldsOf word → r ≡ q
+fields-once = instructions.fields-once
+
 pub decode-once : (word : ℕ) (r q : Decoded) → instructions.decoded r ≡ decode word → instructions.decoded q ≡ decode word → r ≡ q
 decode-once = instructions.decode-once
 
@@ -294,8 +301,8 @@ pub read-once : (places : List ℕ) (at r q : ℕ) → r ≡ getD places at 0 �
 read-once = memory.read-once
 
 -- moves: decide
-pub decide-once : (regs : List ℕ) (pc prev : ℕ) (jumped : Bool) (next n : ℕ) (words owners jumpers writers : List ℕ) (r q : Move)
-    → r ≡ moveOf regs pc prev jumped next n words owners jumpers writers → q ≡ moveOf regs pc prev jumped next n words owners jumpers writers → r ≡ q
+pub decide-once : (settled : Bool) (regs : List ℕ) (pc prev : ℕ) (jumped : Bool) (next n : ℕ) (words owners jumpers writers : List ℕ) (r q : Move)
+    → r ≡ moveFrom settled regs pc prev jumped next n words owners jumpers writers → q ≡ moveFrom settled regs pc prev jumped next n words owners jumpers writers → r ≡ q
 decide-once = moves.decide-once
 
 -- monitor: isolate, with the owners, jumpers and writers; add_target, with the sets

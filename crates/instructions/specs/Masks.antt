@@ -1,5 +1,5 @@
 -- The code tests all unused bits at once, by a mask: that says what the rules' table of largest values says.
-use mathlib.Core.Path.{_≡_, refl, ap, _∙_}
+use mathlib.Core.Path.{_≡_, refl, sym, ap, _∙_}
 use mathlib.Core.Bool.{Bool, true, false, _&&_}
 use Prim.Native.Nat.{ℕ, _+_, _-_, _*_, _%_, _^_, _≤_, _<_}
 use native.Mathlib.Omega.{arith}
@@ -9,7 +9,7 @@ use lib.Bits.{bitAnd, and-mask, and-block, and-le-l}
 use lib.Dec.{leb, eqb}
 use lib.Pow.{pow-pos}
 use Rattle.common.specs.Tests.{both, bool-ext}
-use Rattle.common.specs.Words.{row, allowed, opOf, aOf, bOf, lowOf}
+use Rattle.common.specs.Words.{row, allowed, opOf, aOf, bOf, lowOf, Decoded, instruction, none, decode}
 use Rattle.common.specs.WordLaws.{nibble, half-word, row-full, row-high, row-small}
 
 -- the bits that an opcode uses: the largest value of each field, in the field's place
@@ -72,10 +72,13 @@ mask-fields x y z p q r hy hz hq hr =
 
 -- ---- the code's test
 
+-- no bit below the opcode is set that an opcode leaves unused
+unfoldable pub fitsIn : ℕ → ℕ → Bool
+fitsIn word op = eqb (bitAnd (word % 16777216) (usedOf op)) (word % 16777216)
+
 -- no unused bit is set when no field is above its largest value
-pub mask-allowed : (word : ℕ) → opOf word < 14
-    → eqb (bitAnd (word % 16777216) (usedOf (opOf word))) (word % 16777216) ≡ allowed (opOf word) (aOf word) (bOf word) (lowOf word)
-unfolding usedOf allowed
+pub mask-allowed : (word : ℕ) → opOf word < 14 → fitsIn word (opOf word) ≡ allowed (opOf word) (aOf word) (bOf word) (lowOf word)
+unfolding usedOf allowed fitsIn
 mask-allowed word h =
     let small = row-small (opOf word) in
     let f = both (nibble (row (opOf word) .a) && nibble (row (opOf word) .b)) (half-word (row (opOf word) .low)) (row-full (opOf word)) in
@@ -87,6 +90,28 @@ mask-allowed word h =
     let e = fields-equal (bitAnd (aOf word) (row (opOf word) .a)) (bitAnd (bOf word) (row (opOf word) .b)) (bitAnd (lowOf word) (row (opOf word) .low)) (aOf word) (bOf word) (lowOf word) (and-le-l _ _) (and-le-l _ _) (and-le-l _ _) lb ll in
     simp (split, m, e, nibble-mask (row (opOf word) .a) (aOf word) (g .0), nibble-mask (row (opOf word) .b) (bOf word) (g .1), half-word-mask (row (opOf word) .low) (lowOf word) (f .1), lt-ltb (opOf word) 14 h)
 
+-- ---- what a word decodes to, by the test
+
+-- the opcode and the fields as they stand
+abbrev pub fieldsOf : ℕ → Decoded
+fieldsOf word = instruction (opOf word) (aOf word) (bOf word) (lowOf word)
+
+module _ (word k : ℕ) (h : opOf word ≡ k) (l : k < 14) where
+  asked : fitsIn word k ≡ allowed (opOf word) (aOf word) (bOf word) (lowOf word)
+  asked = ap (fitsIn word) (sym h) ∙ mask-allowed word (omega arith)
+
+  pub decode-fields : fitsIn word k ≡ true → decode word ≡ fieldsOf word
+  unfolding decode
+  decode-fields e = simp (← asked, e)
+
+  pub decode-none : fitsIn word k ≡ false → decode word ≡ none
+  unfolding decode
+  decode-none e = simp (← asked, e)
+
 pub op-high : (word : ℕ) → 14 ≤ opOf word → false ≡ allowed (opOf word) (aOf word) (bOf word) (lowOf word)
 unfolding allowed
 op-high word h = simp (le-ltb (opOf word) 14 h)
+
+pub decode-high : (word : ℕ) → 14 ≤ opOf word → decode word ≡ none
+unfolding decode
+decode-high word h = simp (← op-high word h)

@@ -1,7 +1,7 @@
 // Instruction words both ways, by one table of fourteen rows.
 ghost use mathlib.Core.Path.{_≡_};
 ghost use Rattle.common.specs.Words.{allowed, opOf, aOf, bOf, lowOf, pack, decode, encode};
-ghost use Rattle.instructions.specs.Masks.{usedOf};
+ghost use Rattle.instructions.specs.Masks.{usedOf, fitsIn, fieldsOf};
 ghost use Rattle.instructions.specs.Packing.{hasRoom, Room};
 ghost use Rattle.instructions.specs.Promises.{decoded, encoded};
 
@@ -70,16 +70,36 @@ fn used(op: u32) -> u32
     }
 }
 
+// Whether a word sets no bit below its opcode that an opcode leaves unused.
+pub fn fits(word: u32, op: u32) -> bool
+    ensures { λ r. ⌜ r ≡ fitsIn word op ⌝ }
+{
+    let rest = word % 16777216;
+    (rest & used(op)) == rest
+}
+
+// The opcode and the fields of a word as they stand, whether it is an instruction or not.
+pub fn fields(word: u32) -> Decoded
+    ensures { λ r. ⌜ decoded r ≡ fieldsOf word ⌝ }
+{
+    Decoded {
+        answer: answers::DONE,
+        op: word / 16777216,
+        a: word / 1048576 % 16,
+        b: word / 65536 % 16,
+        low: word % 65536,
+    }
+}
+
 // Whether the opcode is one of the fourteen and no unused bit is set.
 fn is_instruction(word: u32) -> bool
     ensures { λ r. ⌜ r ≡ allowed (opOf word) (aOf word) (bOf word) (lowOf word) ⌝ }
 {
     let op = word / 16777216;
-    let rest = word % 16777216;
     if 13 < op {
         return false;
     }
-    (rest & used(op)) == rest
+    fits(word, op)
 }
 
 // Whether four numbers have room in a word.
@@ -111,13 +131,7 @@ pub fn decode(word: u32) -> Decoded
             low: 0,
         };
     }
-    Decoded {
-        answer: answers::DONE,
-        op: word / 16777216,
-        a: word / 1048576 % 16,
-        b: word / 65536 % 16,
-        low: word % 65536,
-    }
+    fields(word)
 }
 
 // The word with these fields.

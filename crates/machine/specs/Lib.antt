@@ -1,7 +1,4 @@
--- ---- laws of the form, the services and the run, and the promises
-pub mod ServiceLaws
+-- ---- the record as a state, laws of the run, and the promises
 pub mod Views
-pub mod Form
 pub mod RunLaws
-pub mod InsideLaws
 pub mod Promises

@@ -1,13 +1,16 @@
 -- A run in the forms in which the code's loop comes to it.
 use mathlib.Core.Path.{_≡_, refl, sym, ap, _∙_, subst}
 use mathlib.Core.Bool.{Bool, true, false, not}
+use mathlib.Core.List.{List}
 use mathlib.Core.Logic.{_≢_}
 use Prim.Native.Nat.{ℕ, suc, _+_, _-_, _≤_, _<_}
 use native.Mathlib.Omega.{arith}
 use native.Mathlib.Nat.{zero-add, add-zero, sub-zero}
-use borrow.Author.Tests.{not-true, not-false}
+use borrow.Author.Tests.{eqb-true, not-true, not-false}
+use lib.Dec.{eqb}
 use lib.ListN.{length}
 use Rattle.common.specs.Answers as answer
+use Rattle.common.specs.Tests.{clash}
 use Rattle.rules.specs.State.{State}
 use Rattle.rules.specs.Checks.{formed, verdict}
 use Rattle.rules.specs.Step.{Stepped, step}
@@ -15,7 +18,14 @@ use Rattle.rules.specs.Run.{Ran, run}
 use Rattle.rules.specs.StepLaws.{run-goes-on, run-ends}
 use Rattle.rules.specs.Rest.{step-keeps-rest}
 use Rattle.rules.specs.Formed.{step-formed}
-use Rattle.machine.specs.Form.{formedBy, formed-by}
+use Rattle.rules.specs.FormLaws.{n-most}
+use Rattle.moves.specs.declared.Move.{Move}
+use Rattle.moves.specs.Moves.{free, moveFrom, settled-move}
+use Rattle.memory.specs.Places.{putReg, putWord}
+use Rattle.moves.specs.Applied.{moveAt, move-stops, move-runs, move-free}
+use Rattle.service.specs.Served.{Serving, serving}
+use Rattle.service.specs.ServiceLaws.{backWith, serving-stops, serving-runs}
+use Rattle.form.specs.Form.{formOf, formed-by}
 
 -- ---- a run that goes on after count steps
 
@@ -48,6 +58,13 @@ module _ (budget count : ℕ) (s : State) where
   unfolding run
   used h = let k : budget - count ≡ 0 = omega arith in simp (k, add-zero)
 
+-- settled: the compartment that ran last is known to pass 15
+abbrev pub Home : Bool → ℕ → ℕ → Type 0
+Home settled prev next = settled ≡ true → free prev next ≡ true
+
+pub not-home : (prev next : ℕ) → Home false prev next
+not-home prev next z = clash z refl
+
 -- ---- what holds at the loop's head: count steps of the run from s₀ are behind, and s is reached
 
 pub record Going (s₀ s : State) (budget count : ℕ) : Type 0 where
@@ -65,7 +82,7 @@ module _ (budget : ℕ) (s : State) where
   unfolding run
   nothing h = simp h
 
-  module _ (t : Bool) (e : t ≡ formedBy (s .cpu) (length (s .words)) (length (s .owners)) (length (s .jumpers)) (length (s .writers))) where
+  module _ (t : Bool) (e : t ≡ formOf s) where
     pub unformed : budget ≢ 0 → not t ≡ true → record { answer = answer.bad-form; state = s; count = 0 } ≡ run budget s
     unfolding step verdict
     unformed b h =
@@ -85,12 +102,12 @@ module _ (s₀ s : State) (budget count : ℕ) (g : Going s₀ s budget count) w
 
   -- one turn, by whatever way o is the step of s
   module _ (h : count < budget) (o : Stepped) (e : o ≡ step s) where
-    pub stops : o .answer ≢ answer.done → record { answer = o .answer; state = o .state; count = count } ≡ run budget s₀
+    stops : o .answer ≢ answer.done → record { answer = o .answer; state = o .state; count = count } ≡ run budget s₀
     stops a =
         sym (g .so-far ∙ ends budget count s h (λ k. a (ap (λ (x : Stepped). x .answer) e ∙ k))
         ∙ ap (λ (x : Stepped). record { answer = x .answer; state = x .state; count = count }) (sym e))
 
-    pub turns : o .answer ≡ answer.done → Going s₀ (o .state) budget (count + 1)
+    turns : o .answer ≡ answer.done → Going s₀ (o .state) budget (count + 1)
     turns a = subst (λ (x : Stepped). Going s₀ (x .state) budget (count + 1)) (sym e) there
       where
         ran : step s .answer ≡ answer.done
@@ -108,3 +125,53 @@ module _ (s₀ s : State) (budget count : ℕ) (g : Going s₀ s budget count) w
               form = step-formed s (g .form);
               so-far = g .so-far ∙ goes-on budget count s h ran;
             }
+
+  -- at a memory word: m is what was decided
+  module _ (h : count < budget) (k : s .cpu .pc < s .cpu .n) (settled : Bool) (at-home : Home settled (s .cpu .prev) (s .cpu .next)) (m : Move) (decided : m ≡ moveFrom settled (s .cpu .regs) (s .cpu .pc) (s .cpu .prev) (s .cpu .jumped) (s .cpu .next) (s .cpu .n) (s .words) (s .owners) (s .jumpers) (s .writers)) where
+    small : s .cpu .n ≤ 4294967295
+    small = let l = n-most s (g .form) in omega arith
+
+    e : m ≡ moveAt s
+    e =
+        decided
+        ∙ settled-move settled (s .cpu .regs) (s .cpu .pc) (s .cpu .prev) (s .cpu .jumped) (s .cpu .next) (s .cpu .n) (s .words) (s .owners) (s .jumpers) (s .writers) at-home
+
+    pub word-stops : m .answer ≢ answer.done → record { answer = m .answer; state = s; count = count } ≡ run budget s₀
+    word-stops a = stops h (record { answer = m .answer; state = s }) (move-stops s (g .form) k small m e a) a
+
+    module _ (a : m .answer ≡ answer.done) (regs words : List ℕ) (r : regs ≡ putReg (s .cpu .regs) (m .rd) (m .value)) (w : words ≡ putWord (s .words) (s .cpu .n) (m .place) (m .word)) where
+      abbrev there : State
+      there =
+          record {
+            cpu = record { n = s .cpu .n; regs = regs; pc = m .pc; prev = m .owner; jumped = m .jumped; next = s .cpu .next; services = s .cpu .services };
+            words = words;
+            owners = s .owners;
+            jumpers = s .jumpers;
+            writers = s .writers;
+          }
+
+      pub word-turns : Going s₀ there budget (count + 1)
+      word-turns = turns h (record { answer = answer.done; state = there }) (simp (r, w) (move-runs s (g .form) k small m e a)) refl
+
+    -- who ran passed 15
+    pub word-home : m .answer ≡ answer.done → Home true (m .owner) (s .cpu .next)
+    word-home a z = ap (λ (v : Move). free (v .owner) (s .cpu .next)) e ∙ move-free s (ap (λ (v : Move). v .answer) (sym e) ∙ a)
+
+  -- elsewhere: o is what the step at a service came to
+  module _ (h : count < budget) (k : s .cpu .n ≤ s .cpu .pc) (o : Serving) (e : o ≡ serving s) where
+    pub service-stops : o .answer ≢ answer.done
+        → record { answer = o .answer; state = record { cpu = s .cpu; words = s .words; owners = o .owners; jumpers = o .jumpers; writers = o .writers }; count = count } ≡ run budget s₀
+    service-stops a = stops h (record { answer = o .answer; state = record { cpu = s .cpu; words = s .words; owners = o .owners; jumpers = o .jumpers; writers = o .writers } }) (serving-stops s (g .form) k o e a) a
+
+    pub service-turns : o .answer ≡ answer.done
+        → Going s₀ (record { cpu = backWith (s .cpu) (o .number) (o .next) (o .services); words = s .words; owners = o .owners; jumpers = o .jumpers; writers = o .writers }) budget (count + 1)
+    service-turns a = turns h (record { answer = o .answer; state = record { cpu = backWith (s .cpu) (o .number) (o .next) (o .services); words = s .words; owners = o .owners; jumpers = o .jumpers; writers = o .writers } }) (serving-runs s (g .form) k o e a) a
+
+-- one step is a run of budget 1
+pub one-step : (s : State) (r : Ran) → r ≡ run 1 s → record { answer = r .answer; state = r .state } ≡ step s
+unfolding run
+one-step s r e = ap (λ (x : Ran). record { answer = x .answer; state = x .state }) e ∙ go (eqb (step s .answer) answer.done) refl
+  where
+    go : (b : Bool) → eqb (step s .answer) answer.done ≡ b → record { answer = run 1 s .answer; state = run 1 s .state } ≡ step s
+    go true f = simp f (ap (λ (a : ℕ). record { answer = a; state = step s .state }) (sym (eqb-true _ _ f)))
+    go false f = simp f

@@ -4,7 +4,6 @@ use Prim.Native.Nat.{ℕ}
 use Rattle.rules.specs.State as rules
 use Rattle.rules.specs.Step as step
 use Rattle.rules.specs.Run as run
-use Rattle.machine.specs.ServiceLaws.{Added}
 use Rattle.machine.specs.declared.Processor.{Processor}
 use Rattle.machine.specs.declared.Stepped.{Stepped}
 use Rattle.machine.specs.declared.Ran.{Ran}
@@ -25,6 +24,3 @@ steppedOf r words owners jumpers writers = record { answer = r .answer; state = 
 
 abbrev pub ranOf : Ran → List ℕ → List ℕ → List ℕ → List ℕ → run.Ran
 ranOf r words owners jumpers writers = record { answer = r .answer; state = stateOf (r .cpu) words owners jumpers writers; count = r .count }
-
-abbrev pub addedOf : Stepped → List ℕ → Added
-addedOf r sets = record { answer = r .answer; cpu = cpuOf (r .cpu); sets = sets }

@@ -1,2 +1,3 @@
--- ---- what the reads promise
+-- ---- what is written, and what the calls promise
+pub mod Places
 pub mod Promises

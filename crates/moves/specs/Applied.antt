@@ -10,22 +10,16 @@ use lib.Dec.{ltb, leb, eqb}
 use lib.ListN.{getD, set}
 use Rattle.common.specs.Answers as answer
 use Rattle.common.specs.Opcodes as op
-use Rattle.common.specs.Words.{Decoded}
+use Rattle.common.specs.Words.{Decoded, decode}
 use Rattle.common.specs.WordLaws.{decoded-small, rd-small}
 use Rattle.common.specs.Instructions.{reg, plus, arithmetic, pcAfter, regsAfter, wordsAfter, jumps}
 use Rattle.common.specs.Services.{isServiceNumber}
 use Rattle.rules.specs.State.{State, inMemory, hasOwner, ownerAt, jumpersAt, writersAt, owns, mayJump, mayStore}
 use Rattle.rules.specs.Checks.{formed, badOwner, arrives, instructionAt, storeVerdict, instructionVerdict, wordVerdict, verdict}
 use Rattle.rules.specs.Step.{ranInstruction, commit, step}
+use Rattle.memory.specs.Places.{putReg, putWord}
 use Rattle.moves.specs.declared.Move.{Move}
 use Rattle.moves.specs.Moves.{no-register, nowhere, free, arrivesAt, mayStoreAt, loadMove, storeMove, bnzMove, instructionMove, wordMove, moveOf}
-
--- a register past 15 is none, and a place from N on is none
-unfoldable pub putReg : List ℕ → ℕ → ℕ → List ℕ
-putReg regs rd value = cond (ltb rd 16) (set regs rd value) regs
-
-unfoldable pub putWord : List ℕ → ℕ → ℕ → ℕ → List ℕ
-putWord words n place word = cond (ltb place n) (set words place word) words
 
 abbrev pub applied : State → Move → State
 applied s m =
@@ -319,3 +313,32 @@ module _ (s : State) (w : formed s ≡ true) (k : s .cpu .pc < s .cpu .n) (hn : 
       let z : moveAt s .answer ≡ answer.done = ap (λ (u : Move). u .answer) (sym e) ∙ h in
       let q : verdict s ≡ answer.done = sym move-answers ∙ z in
       simp q (ap (λ (u : State). record { answer = answer.done; state = u }) (ap (applied s) e ∙ move-applies z))
+
+-- ---- who ran passed 15
+
+module _ (i : Decoded) (regs : List ℕ) (pc owner n : ℕ) (words owners writers : List ℕ) where
+  owner-cond : (t : Bool) (x y : Move) → cond t x y .owner ≡ cond t (x .owner) (y .owner)
+  owner-cond true x y = refl
+  owner-cond false x y = refl
+
+  cond-same : (t : Bool) (o : ℕ) → cond t o o ≡ o
+  cond-same true o = refl
+  cond-same false o = refl
+
+  word-owner : wordMove i regs pc owner n words owners writers .owner ≡ owner
+  unfolding wordMove instructionMove loadMove storeMove bnzMove
+  word-owner = simp (owner-cond, cond-same)
+
+pub move-free : (s : State) → moveAt s .answer ≡ answer.done → free (moveAt s .owner) (s .cpu .next) ≡ true
+unfolding moveOf
+move-free s = go (free owner (s .cpu .next)) (arrivesAt owner (s .cpu .prev) (s .cpu .jumped) (getD (s .jumpers) (s .cpu .pc) 0)) refl refl
+  where
+    owner : ℕ
+    owner = getD (s .owners) (s .cpu .pc) 0
+
+    go : (f a : Bool) → free owner (s .cpu .next) ≡ f → arrivesAt owner (s .cpu .prev) (s .cpu .jumped) (getD (s .jumpers) (s .cpu .pc) 0) ≡ a
+        → moveAt s .answer ≡ answer.done → free (moveAt s .owner) (s .cpu .next) ≡ true
+    go false a e h z = let q : _≡_ {A = ℕ} 15 0 = simp e at z in absurd (omega arith)
+    go true false e h z = let q : _≡_ {A = ℕ} 4 0 = simp (e, h) at z in absurd (omega arith)
+    go true true e h z =
+        simp (e, h, word-owner (decode (getD (s .words) (s .cpu .pc) 0)) (s .cpu .regs) (s .cpu .pc) owner (s .cpu .n) (s .words) (s .owners) (s .writers))

@@ -1,30 +1,24 @@
 -- The cases of a decision, each in the form in which the code comes to it.
-use mathlib.Core.Path.{_≡_, refl, sym, ap, _∙_, subst}
-use mathlib.Core.Bool.{Bool, true, false, not, _&&_, and-false, or-true}
+use mathlib.Core.Path.{_≡_, refl, sym, ap, _∙_, subst⁻¹}
+use mathlib.Core.Bool.{Bool, true, false, not, _&&_, or-true}
 use mathlib.Core.List.{List}
 use mathlib.Core.Logic.{_≢_}
 use Prim.Native.Nat.{ℕ, _%_, _≤_, _<_}
 use native.Mathlib.Omega.{arith}
-use borrow.Author.Tests.{ltb-true, ltb-false, le-leb, lt-leb, eq-eqb, ne-eqb, not-true, not-false}
+use borrow.Author.Tests.{ltb-true, ltb-false, le-leb, eq-eqb, ne-eqb, not-true, not-false}
 use lib.Dec.{ltb, eqb}
 use lib.ListN.{getD}
 use Rattle.common.specs.Answers as answer
 use Rattle.common.specs.Tests.{NoneOf, past}
-use Rattle.common.specs.Words.{Decoded, decode}
-use Rattle.common.specs.Opcodes as op
-use Rattle.common.specs.WordLaws.{decoded-small, rd-small}
+use Rattle.common.specs.Words.{Decoded, none as no-word, decode, opOf, aOf, bOf, lowOf}
+use Rattle.common.specs.WordLaws.{rd-small as register}
 use Rattle.common.specs.Instructions.{plus, arithmetic}
 use Rattle.rules.specs.Compartments.{member}
 use Rattle.instructions.specs.declared.Decoded.{Decoded as Fields}
+use Rattle.instructions.specs.Masks.{fitsIn, fieldsOf, decode-fields, decode-none, decode-high}
 use Rattle.instructions.specs.Promises.{decoded}
 use Rattle.moves.specs.declared.Move.{Move}
 use Rattle.moves.specs.Moves as is
-
--- what is known of a decoded word's fields
-pub record Small (i : Decoded) : Type 0 where
-  pub a : i .a < 16
-  pub b : i .b < 16
-  pub rd : op.add ≤ i .op → i .op ≤ op.leq → i .low < 16
 
 -- ---- one law for each arm: i is decoded; on is pc + 1, x and y the registers that it names
 module _ (i : Decoded) (regs : List ℕ) (pc owner n : ℕ) (words owners writers : List ℕ) (m : Move) where
@@ -77,24 +71,17 @@ module _ (i : Decoded) (regs : List ℕ) (pc owner n : ℕ) (words owners writer
   halt h e = simp (h, e)
 
   -- the five arithmetic ones
-  pub five : 3 ≤ i .op → i .op < 8 → Small i → (on : ℕ) → On on → (x : ℕ) → X x → (y : ℕ) → Y y → (v : ℕ) → v ≡ arithmetic (i .op) x y
+  pub five : 3 ≤ i .op → i .op < 8 → i .low < 16 → (on : ℕ) → On on → (x : ℕ) → X x → (y : ℕ) → Y y → (v : ℕ) → v ≡ arithmetic (i .op) x y
       → m ≡ is.puts owner on (i .low % 16) v → Is
   unfolding is.instructionMove
-  five h k small on eo x ex y ey v ev e =
-      let l : i .low < 16 = small .rd h (omega arith) in
+  five h k l on eo x ex y ey v ev e =
       let r : i .low % 16 ≡ i .low = omega arith in
       let a : i .op ≢ 1 = λ z. omega arith in
       let b : i .op ≢ 2 = λ z. omega arith in
       simp (ne-eqb (i .op) 1 a, ne-eqb (i .op) 2 b, le-leb 3 (i .op) h, le-leb (i .op) 7 (omega arith), e, ev, eo, ex, ey, r)
 
-  pub beyond : 14 ≤ i .op → (on : ℕ) → On on → m ≡ is.goes owner on → Is
-  unfolding is.instructionMove
-  beyond h on eo e =
-      let not-op : (k : ℕ) → k < 14 → eqb (i .op) k ≡ false = λ k l. ne-eqb (i .op) k (λ z. omega arith) in
-      simp (not-op 1 (omega arith), not-op 2 (omega arith), lt-leb (i .op) 7 (omega arith), and-false, not-op 8 (omega arith), not-op 9 (omega arith), not-op 10 (omega arith), not-op 11 (omega arith), not-op 12 (omega arith), not-op 13 (omega arith), e, eo)
-
 -- an opcode that is none of those that have an arm
-pub no-arm : (o : ℕ) → (3 ≤ o → o < 8 → ⊥) → NoneOf 3 o → o ≢ 8 → o ≢ 9 → o ≢ 10 → o ≢ 11 → o ≢ 12 → o ≢ 13 → 14 ≤ o
+no-arm : (o : ℕ) → (3 ≤ o → o < 8 → ⊥) → NoneOf 3 o → o ≢ 8 → o ≢ 9 → o ≢ 10 → o ≢ 11 → o ≢ 12 → o ≢ 13 → 14 ≤ o
 no-arm o h k a b c d e f = late o (not-below (ltb o 8) refl) a b c d e f
   where
     low : 3 ≤ o
@@ -107,43 +94,99 @@ no-arm o h k a b c d e f = late o (not-below (ltb o 8) refl) a b c d e f
     late : (o : ℕ) → 8 ≤ o → o ≢ 8 → o ≢ 9 → o ≢ 10 → o ≢ 11 → o ≢ 12 → o ≢ 13 → 14 ≤ o
     late o h a b c d e f = omega arith
 
--- ---- the instruction at pc: the three stops before it, then the arm that is taken
-module _ (regs : List ℕ) (pc prev : ℕ) (jumped : Bool) (next n : ℕ) (words owners jumpers writers : List ℕ) (owner : ℕ) (eo : owner ≡ getD owners pc 0) (m : Move) where
-  abbrev Decides : Type 0
-  Decides = m ≡ is.moveOf regs pc prev jumped next n words owners jumpers writers
+-- ---- from the fields of a word to the word
 
-  module _ (f : Bool) (ef : f ≡ is.free owner next) where
-    pub not-free : not f ≡ true → m ≡ is.stop answer.bad-owner owner → Decides
+module _ (regs : List ℕ) (pc owner n : ℕ) (words owners writers : List ℕ) where
+  abbrev move : Decoded → Move
+  move d = is.wordMove d regs pc owner n words owners writers
+
+  taken : (d : Decoded) → d .answer ≡ answer.done → is.instructionMove d regs pc owner n words owners writers ≡ move d
+  unfolding is.wordMove
+  taken d h = simp h
+
+  refused : is.stop answer.no-instruction owner ≡ move no-word
+  unfolding is.wordMove
+  refused = refl
+
+-- i has the word's fields as they stand
+module _ (word : ℕ) (i : Fields) (ei : decoded i ≡ fieldsOf word) where
+  is-op : i .op ≡ opOf word
+  is-op = ap (λ (d : Decoded). d .op) ei
+
+  pub a-small : i .a < 16
+  a-small = let e : i .a ≡ aOf word = ap (λ (d : Decoded). d .a) ei in omega arith
+
+  pub b-small : i .b < 16
+  b-small = let e : i .b ≡ bOf word = ap (λ (d : Decoded). d .b) ei in omega arith
+
+  pub low-small : i .low < 65536
+  low-small = let e : i .low ≡ lowOf word = ap (λ (d : Decoded). d .low) ei in omega arith
+
+  pub not-five : (3 ≤ i .op → i .op < 8 → ⊥) → 3 ≤ opOf word → opOf word < 8 → ⊥
+  not-five f h k = let e = is-op in f (omega arith) (omega arith)
+
+  -- an arm k: t is its test
+  module _ (k : ℕ) (ek : i .op ≡ k) (l : k < 14) (t : Bool) (et : t ≡ fitsIn word k) where
+    whole : t ≡ true → decoded i ≡ decode word
+    whole h = ei ∙ sym (decode-fields word k (sym is-op ∙ ek) l (sym et ∙ h))
+
+    -- an arithmetic word that fits names its register by the low 16 bits
+    pub rd-small : t ≡ true → 3 ≤ i .op → i .op < 8 → i .low < 16
+    rd-small h a b =
+        let done : decode word .answer ≡ answer.done = ap (λ (d : Decoded). d .answer) (sym (whole h) ∙ ei) in
+        subst⁻¹ (λ (d : Decoded). 3 ≤ d .op → d .op ≤ 7 → d .low < 16) (whole h) (register word done) a (omega arith)
+
+    module _ (regs : List ℕ) (pc owner n : ℕ) (words owners writers : List ℕ) (m : Move) where
+      pub fits : t ≡ true → m ≡ is.instructionMove (decoded i) regs pc owner n words owners writers
+          → m ≡ is.wordMove (decode word) regs pc owner n words owners writers
+      fits h e = e ∙ taken regs pc owner n words owners writers (decoded i) (ap (λ (d : Decoded). d .answer) ei) ∙ ap (move regs pc owner n words owners writers) (whole h)
+
+      pub none : t ≡ false → m ≡ is.stop answer.no-instruction owner → m ≡ is.wordMove (decode word) regs pc owner n words owners writers
+      none h e = e ∙ refused regs pc owner n words owners writers ∙ ap (move regs pc owner n words owners writers) (sym (decode-none word k (sym is-op ∙ ek) l (sym et ∙ h)))
+
+  -- no arm
+  pub high : (3 ≤ opOf word → opOf word < 8 → ⊥) → NoneOf 3 (i .op) → i .op ≢ 8 → i .op ≢ 9 → i .op ≢ 10 → i .op ≢ 11 → i .op ≢ 12 → i .op ≢ 13
+      → (regs : List ℕ) (pc owner n : ℕ) (words owners writers : List ℕ) (m : Move) → m ≡ is.stop answer.no-instruction owner
+      → m ≡ is.wordMove (decode word) regs pc owner n words owners writers
+  high f k a b c d u v regs pc owner n words owners writers m e =
+      let o = is-op in
+      let h : 14 ≤ i .op = no-arm (i .op) (λ x y. f (omega arith) (omega arith)) k a b c d u v in
+      e ∙ refused regs pc owner n words owners writers ∙ ap (move regs pc owner n words owners writers) (sym (decode-high word (omega arith)))
+
+-- ---- the instruction at pc: the two stops before it, the three ways to come to it
+module _ (settled : Bool) (regs : List ℕ) (pc prev : ℕ) (jumped : Bool) (next n : ℕ) (words owners jumpers writers : List ℕ) (owner : ℕ) (eo : owner ≡ getD owners pc 0) (home : Bool) (eh : home ≡ (settled && eqb owner prev)) where
+  abbrev Decides : Move → Type 0
+  Decides m = m ≡ is.moveFrom settled regs pc prev jumped next n words owners jumpers writers
+
+  abbrev Runs : Type 0
+  Runs = Decides (is.wordMove (decode (getD words pc 0)) regs pc owner n words owners writers)
+
+  away : not home ≡ true → is.moveFrom settled regs pc prev jumped next n words owners jumpers writers ≡ is.moveOf regs pc prev jumped next n words owners jumpers writers
+  unfolding is.moveFrom
+  away h = simp (← eo, ← eh, not-true home h)
+
+  pub at-home : not home ≡ false → Runs
+  unfolding is.moveFrom
+  at-home h = simp (← eo, ← eh, not-false home h)
+
+  module _ (h : not home ≡ true) (f : Bool) (ef : f ≡ is.free owner next) where
+    pub not-free : not f ≡ true → (m : Move) → m ≡ is.stop answer.bad-owner owner → Decides m
     unfolding is.moveOf
-    not-free h e = simp (← eo, ← ef, not-true f h, e)
+    not-free hf m e = simp (away h, ← eo, ← ef, not-true f hf, e)
 
     module _ (hf : not f ≡ false) where
-      pub not-come : owner ≢ prev → (set : ℕ) → set ≡ getD jumpers pc 0 → (a : Bool) → a ≡ (jumped && member set prev) → not a ≡ true
-          → m ≡ is.stop answer.no-arrival owner → Decides
+      pub by-own : owner ≡ prev → Runs
       unfolding is.moveOf is.arrivesAt
-      not-come n set es a ea h e = simp (← eo, ← ef, not-false f hf, ne-eqb owner prev n, ← es, ← ea, not-true a h, e)
+      by-own e = simp (away h, ← eo, ← ef, not-false f hf, eq-eqb owner prev e)
 
-      module _ (came : is.arrivesAt owner prev jumped (getD jumpers pc 0) ≡ true) (word : ℕ) (ew : word ≡ getD words pc 0) (i : Fields) (ei : decoded i ≡ decode word) where
-        pub no-word : i .answer ≢ answer.done → m ≡ is.stop answer.no-instruction owner → Decides
-        unfolding is.moveOf is.wordMove
-        no-word h e = simp (← eo, ← ef, not-false f hf, came, ← ew, ← ei, ne-eqb (i .answer) answer.done h, e)
+      module _ (set : ℕ) (es : set ≡ getD jumpers pc 0) (a : Bool) (ea : a ≡ (jumped && member set prev)) where
+        pub not-come : owner ≢ prev → not a ≡ true → (m : Move) → m ≡ is.stop answer.no-arrival owner → Decides m
+        unfolding is.moveOf is.arrivesAt
+        not-come ne ha m e = simp (away h, ← eo, ← ef, not-false f hf, ne-eqb owner prev ne, ← es, ← ea, not-true a ha, e)
 
-        pub a-word : i .answer ≡ answer.done → m ≡ is.instructionMove (decoded i) regs pc owner n words owners writers → Decides
-        unfolding is.moveOf is.wordMove
-        a-word h e = simp (← eo, ← ef, not-false f hf, came, ← ew, ← ei, h, e)
+        pub by-jump : not a ≡ false → Runs
+        unfolding is.moveOf is.arrivesAt
+        by-jump ha = simp (away h, ← eo, ← ef, not-false f hf, ← es, ← ea, not-false a ha, or-true)
 
--- both ways to have arrived
-pub at-home : (owner prev : ℕ) (jumped : Bool) (set : ℕ) → owner ≡ prev → is.arrivesAt owner prev jumped set ≡ true
-unfolding is.arrivesAt
-at-home owner prev jumped set h = simp (eq-eqb owner prev h)
-
-pub by-jump : (owner prev : ℕ) (jumped : Bool) (there set : ℕ) → set ≡ there → (a : Bool) → a ≡ (jumped && member set prev) → not a ≡ false
-    → is.arrivesAt owner prev jumped there ≡ true
-unfolding is.arrivesAt
-by-jump owner prev jumped there set es a e h = simp (← es, ← e, not-false a h, or-true)
-
-pub fields-small : (word : ℕ) (i : Fields) → decoded i ≡ decode word → i .answer ≡ answer.done → Small (decoded i)
-fields-small word i e h =
-    let s = decoded-small word in
-    let r = rd-small word (ap (λ (d : Decoded). d .answer) (sym e) ∙ h) in
-    subst Small (sym e) (record { a = s .1; b = s .2; rd = r })
+  pub runs : Runs → (word : ℕ) → word ≡ getD words pc 0 → (m : Move) → m ≡ is.wordMove (decode word) regs pc owner n words owners writers → Decides m
+  runs r word ew m e = e ∙ ap (λ (w : ℕ). is.wordMove (decode w) regs pc owner n words owners writers) ew ∙ r

@@ -1,7 +1,9 @@
 -- Moves: what the instruction at pc will write, case by case in the code's order.
+use mathlib.Core.Path.{_≡_, refl, ap, _∙_}
 use mathlib.Core.Bool.{Bool, true, false, cond, _&&_, _||_, not}
 use mathlib.Core.List.{List}
 use Prim.Native.Nat.{ℕ}
+use borrow.Author.Tests.{eqb-true}
 use lib.Dec.{ltb, leb, eqb}
 use lib.ListN.{getD}
 use Rattle.common.specs.Answers as answer
@@ -90,3 +92,23 @@ moveOf regs pc prev jumped next n words owners jumpers writers =
     cond (free owner next)
     (cond (arrivesAt owner prev jumped (getD jumpers pc 0)) (wordMove (decode (getD words pc 0)) regs pc owner n words owners writers) (stop answer.no-arrival owner))
     (stop answer.bad-owner owner)
+
+-- the same where it may be known (settled) that prev passes 15: then at a word of prev's own neither 15 nor 4 is asked
+unfoldable pub moveFrom : Bool → List ℕ → ℕ → ℕ → Bool → ℕ → ℕ → List ℕ → List ℕ → List ℕ → List ℕ → Move
+moveFrom settled regs pc prev jumped next n words owners jumpers writers =
+    let owner = getD owners pc 0 in
+    cond (settled && eqb owner prev) (wordMove (decode (getD words pc 0)) regs pc owner n words owners writers)
+    (moveOf regs pc prev jumped next n words owners jumpers writers)
+
+-- where that is so, it is the move
+pub settled-move : (settled : Bool) (regs : List ℕ) (pc prev : ℕ) (jumped : Bool) (next n : ℕ) (words owners jumpers writers : List ℕ)
+    → (settled ≡ true → free prev next ≡ true)
+    → moveFrom settled regs pc prev jumped next n words owners jumpers writers ≡ moveOf regs pc prev jumped next n words owners jumpers writers
+unfolding moveFrom moveOf arrivesAt
+settled-move settled regs pc prev jumped next n words owners jumpers writers h = go settled (eqb (getD owners pc 0) prev) refl refl
+  where
+    go : (s t : Bool) → settled ≡ s → eqb (getD owners pc 0) prev ≡ t
+        → moveFrom settled regs pc prev jumped next n words owners jumpers writers ≡ moveOf regs pc prev jumped next n words owners jumpers writers
+    go false t e f = simp e
+    go true false e f = simp (e, f)
+    go true true e f = simp (e, f, ap (λ (o : ℕ). free o next) (eqb-true (getD owners pc 0) prev f) ∙ h e)

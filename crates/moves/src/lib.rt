@@ -1,14 +1,14 @@
 // What the instruction at pc will write, decided by reading alone.
 ghost use mathlib.Core.Path.{_≡_};
-ghost use mathlib.Core.Bool.{_&&_};
+ghost use mathlib.Core.Bool.{_&&_, cond};
 ghost use Prim.Native.Nat.{_<_, _≤_};
+ghost use lib.Dec.{eqb};
 ghost use lib.ListN.{getD};
-ghost use Rattle.common.specs.Instructions.{plus, bit, arithmetic, branch};
+ghost use Rattle.common.specs.Answers as answer;
+ghost use Rattle.common.specs.Words.{opOf, decode};
+ghost use Rattle.common.specs.Instructions.{plus, arithmetic, branch};
 ghost use Rattle.rules.specs.Compartments.{member};
-ghost use Rattle.moves.specs.MoveLaws.{Small};
-ghost use Rattle.instructions.specs.Promises.{decoded};
 ghost use Rattle.moves.specs.Moves as is;
-use instructions::Decoded;
 
 // A register to write (16: none) and its value; a place to store to (4294967295: none) and its word; then pc, the owner and the flag.
 pub struct Move {
@@ -102,43 +102,35 @@ fn reg(regs: &[u32; 16], i: u32) -> u32
     regs[j]
 }
 
-// Add, Sub, Mul, Eq and Leq: opcodes 3 to 7. An order comes first, so that no second jump table is made.
+// One of two numbers, without a jump.
+fn pick(t: bool, x: u32, y: u32) -> u32
+    ensures { λ r. ⌜ r ≡ cond t x y ⌝ }
+{
+    if t { x } else { y }
+}
+
+// Add, Sub, Mul, Eq and Leq: opcodes 3 to 7. All five are made and one is picked: that is cheaper than jumping to it.
 fn arith(op: u32, x: u32, y: u32) -> u32
     requires { ⌜ 3 ≤ op ⌝ }
     ensures { λ r. ⌜ r ≡ arithmetic op x y ⌝ }
 {
-    if op < 5 {
-        if op == 3 {
-            return std::num::wrapping_add_u32(x, y);
-        }
-        return std::num::wrapping_sub_u32(x, y);
-    }
-    if op == 5 {
-        return ((x as u64) * (y as u64) % 4294967296) as u32;
-    }
-    if op == 6 {
-        return bit(x == y);
-    }
-    bit(x <= y)
-}
-
-fn bit(t: bool) -> u32
-    ensures { λ r. ⌜ r ≡ bit t ⌝ }
-{
-    if t { 1 } else { 0 }
+    let sum = std::num::wrapping_add_u32(x, y);
+    let difference = std::num::wrapping_sub_u32(x, y);
+    let product = ((x as u64) * (y as u64) % 4294967296) as u32;
+    let equal = pick(x == y, 1, 0);
+    let ordered = pick(x <= y, 1, 0);
+    let moved = pick(op < 4, sum, difference);
+    let compared = pick(op < 7, equal, ordered);
+    pick(op < 5, moved, pick(op < 6, product, compared))
 }
 
 // pc and an offset of 16 bits in two's complement.
 fn branch_target(pc: u32, low: u32) -> u32
+    requires { ⌜ low < 65536 ⌝ }
     ensures { λ r. ⌜ r ≡ branch pc low ⌝ }
 {
-    if low < 32768 {
-        return std::num::wrapping_add_u32(pc, low);
-    }
-    if low < 65536 {
-        return std::num::wrapping_sub_u32(pc, 65536 - low);
-    }
-    pc
+    let back = pick(low < 32768, 0, 65536);
+    std::num::wrapping_sub_u32(std::num::wrapping_add_u32(pc, low), back)
 }
 
 // 15: whether an owner is 0, or from 4 to below next.
@@ -200,6 +192,7 @@ fn store_move(owner: u32, on: u32, x: u32, y: u32, n: u32, owners: &[u32], write
 }
 
 fn bnz_move(owner: u32, on: u32, pc: u32, low: u32, x: u32) -> Move
+    requires { ⌜ low < 65536 ⌝ }
     ensures { λ r. ⌜ r ≡ is.bnzMove owner on pc low x ⌝ }
 {
     if x == 0 {
@@ -215,9 +208,16 @@ fn after(pc: u32) -> u32
     std::num::wrapping_add_u32(pc, 1)
 }
 
-// An instruction that is none of the arithmetic ones. No word decodes to an opcode above 13.
+// 3.
+fn none(owner: u32) -> Move
+    ensures { λ r. ⌜ r ≡ is.stop answer.no-instruction owner ⌝ }
+{
+    stop(answers::NO_INSTRUCTION, owner)
+}
+
+// A word that is none of the arithmetic ones. Each arm asks for its own row of the table, which is then a constant.
 fn other(
-    i: Decoded,
+    word: u32,
     regs: &[u32; 16],
     pc: u32,
     owner: u32,
@@ -226,35 +226,72 @@ fn other(
     owners: &[u32],
     writers: &[u64],
 ) -> Move
-    requires { ⌜ (i .a < 16) × (i .b < 16) × ((3 ≤ i .op → i .op < 8 → ⊥)) ⌝ }
-    ensures { λ r. ⌜ r ≡ is.instructionMove (decoded i) (now (regs .entry)) pc owner n (now (words .entry)) (now (owners .entry)) (now (writers .entry)) ⌝ }
+    requires { ⌜ (3 ≤ opOf word → opOf word < 8 → ⊥) ⌝ }
+    ensures { λ r. ⌜ r ≡ is.wordMove (decode word) (now (regs .entry)) pc owner n (now (words .entry)) (now (owners .entry)) (now (writers .entry)) ⌝ }
 {
+    let i = instructions::fields(word);
     let op = i.op;
     match op {
-        0 => goes(owner, after(pc)),
-        1 => puts(owner, after(pc), i.a, i.low),
-        2 => puts(owner, after(pc), i.b, reg(regs, i.a)),
-        8 => load_move(owner, after(pc), i.b, reg(regs, i.a), n, words),
-        9 => store_move(
-            owner,
-            after(pc),
-            reg(regs, i.a),
-            reg(regs, i.b),
-            n,
-            owners,
-            writers,
-        ),
-        10 => leaps(owner, reg(regs, i.a), NO_REGISTER, 0),
-        11 => leaps(owner, reg(regs, i.a), 15, after(pc)),
-        12 => bnz_move(owner, after(pc), pc, i.low, reg(regs, i.a)),
-        13 => stop(answers::HALT, owner),
-        _ => goes(owner, after(pc)),
+        0 => if instructions::fits(word, 0) {
+            goes(owner, after(pc))
+        } else {
+            none(owner)
+        },
+        1 => if instructions::fits(word, 1) {
+            puts(owner, after(pc), i.a, i.low)
+        } else {
+            none(owner)
+        },
+        2 => if instructions::fits(word, 2) {
+            puts(owner, after(pc), i.b, reg(regs, i.a))
+        } else {
+            none(owner)
+        },
+        8 => if instructions::fits(word, 8) {
+            load_move(owner, after(pc), i.b, reg(regs, i.a), n, words)
+        } else {
+            none(owner)
+        },
+        9 => if instructions::fits(word, 9) {
+            store_move(
+                owner,
+                after(pc),
+                reg(regs, i.a),
+                reg(regs, i.b),
+                n,
+                owners,
+                writers,
+            )
+        } else {
+            none(owner)
+        },
+        10 => if instructions::fits(word, 10) {
+            leaps(owner, reg(regs, i.a), NO_REGISTER, 0)
+        } else {
+            none(owner)
+        },
+        11 => if instructions::fits(word, 11) {
+            leaps(owner, reg(regs, i.a), 15, after(pc))
+        } else {
+            none(owner)
+        },
+        12 => if instructions::fits(word, 12) {
+            bnz_move(owner, after(pc), pc, i.low, reg(regs, i.a))
+        } else {
+            none(owner)
+        },
+        13 => if instructions::fits(word, 13) {
+            stop(answers::HALT, owner)
+        } else {
+            none(owner)
+        },
+        _ => none(owner),
     }
 }
 
-// The instruction of an owner at pc.
+// 3, or the instruction of an owner at pc.
 fn execute(
-    i: Decoded,
+    word: u32,
     regs: &[u32; 16],
     pc: u32,
     owner: u32,
@@ -263,26 +300,42 @@ fn execute(
     owners: &[u32],
     writers: &[u64],
 ) -> Move
-    requires { ⌜ Small (decoded i) ⌝ }
-    ensures { λ r. ⌜ r ≡ is.instructionMove (decoded i) (now (regs .entry)) pc owner n (now (words .entry)) (now (owners .entry)) (now (writers .entry)) ⌝ }
+    ensures { λ r. ⌜ r ≡ is.wordMove (decode word) (now (regs .entry)) pc owner n (now (words .entry)) (now (owners .entry)) (now (writers .entry)) ⌝ }
 {
+    let i = instructions::fields(word);
     let op = i.op;
     match op {
-        3..=7 => puts(
-            owner,
-            after(pc),
-            i.low % 16,
-            arith(op, reg(regs, i.a), reg(regs, i.b)),
-        ),
-        _ => other(i, regs, pc, owner, n, words, owners, writers),
+        3..=7 => if instructions::fits(word, op) {
+            puts(
+                owner,
+                after(pc),
+                i.low % 16,
+                arith(op, reg(regs, i.a), reg(regs, i.b)),
+            )
+        } else {
+            none(owner)
+        },
+        _ => other(word, regs, pc, owner, n, words, owners, writers),
     }
 }
 
-// At a memory word: 15, 4, 3, then the instruction.
+// Whether an owner is the compartment that ran last, and that one is known to pass 15.
+fn is_home(settled: bool, owner: u32, prev: u32) -> bool
+    ensures { λ r. ⌜ r ≡ (settled && eqb owner prev) ⌝ }
+{
+    if !settled {
+        return false;
+    }
+    owner == prev
+}
+
+// At a memory word: 15, 4, 3, then the instruction. Where the caller knows that prev passes 15 (settled), a word of prev's own
+// is asked neither for 15 nor for 4.
 pub fn decide(
     regs: &[u32; 16],
     pc: u32,
     prev: u32,
+    settled: bool,
     jumped: bool,
     next: u32,
     n: u32,
@@ -291,21 +344,27 @@ pub fn decide(
     jumpers: &[u64],
     writers: &[u64],
 ) -> Move
-    ensures { λ r. ⌜ r ≡ is.moveOf (now (regs .entry)) pc prev jumped next n (now (words .entry)) (now (owners .entry)) (now (jumpers .entry)) (now (writers .entry)) ⌝ }
+    ensures { λ r. ⌜ r ≡ is.moveFrom settled (now (regs .entry)) pc prev jumped next n (now (words .entry)) (now (owners .entry)) (now (jumpers .entry)) (now (writers .entry)) ⌝ }
 {
     let owner = memory::word_at(owners, pc);
-    if !is_free(owner, next) {
-        return stop(answers::BAD_OWNER, owner);
-    }
-    if owner != prev {
-        if !jumped_in(prev, jumped, memory::set_at(jumpers, pc)) {
-            return stop(answers::NO_ARRIVAL, owner);
+    if !is_home(settled, owner, prev) {
+        if !is_free(owner, next) {
+            return stop(answers::BAD_OWNER, owner);
+        }
+        if owner != prev {
+            if !jumped_in(prev, jumped, memory::set_at(jumpers, pc)) {
+                return stop(answers::NO_ARRIVAL, owner);
+            }
         }
     }
-    let i = instructions::decode(memory::word_at(words, pc));
-    let answer = i.answer;
-    if answer != answers::DONE {
-        return stop(answers::NO_INSTRUCTION, owner);
-    }
-    execute(i, regs, pc, owner, n, words, owners, writers)
+    execute(
+        memory::word_at(words, pc),
+        regs,
+        pc,
+        owner,
+        n,
+        words,
+        owners,
+        writers,
+    )
 }

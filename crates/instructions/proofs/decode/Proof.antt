@@ -14,9 +14,12 @@ returns : tie.Need-returns
 unfolding decode
 returns c = let e : c .before .is-instruction .result ≡ false = not-true _ (c .if1 .taken) in simp (← c .before .is-instruction .ensures, e)
 
+fields-requires : tie.Need-fields-requires
+fields-requires c κs = search needs
+
 returns-2 : tie.Need-returns-2
 unfolding decode
-returns-2 c = let e : c .before .is-instruction .result ≡ true = not-false _ (c .if1 .left) in simp (← c .before .is-instruction .ensures, e)
+returns-2 c = let e : c .before .before .is-instruction .result ≡ true = not-false _ (c .before .if1 .left) in simp (← c .before .before .is-instruction .ensures, e) (c .fields .ensures)
 
 pub decode-spec : {M : Type 1} → statement M
-decode-spec = tie.close (tie.spec is-instruction-requires returns returns-2)
+decode-spec = tie.close (tie.spec is-instruction-requires returns fields-requires returns-2)

@@ -1,5 +1,6 @@
 -- The mask test is the rules' test.
 use native.Mathlib.Omega.{arith}
+use mathlib.Core.Path.{_∙_}
 use Rattle.instructions.specs.Masks.{mask-allowed, op-high}
 use borrow.Author.Needs.{needs}
 use Rattle.instructions.proofs.is_instruction.Statement.{statement}
@@ -8,11 +9,11 @@ use Rattle.instructions.proofs.is_instruction.Tie as tie
 returns : tie.Need-returns
 returns c = op-high _ (c .if1 .taken)
 
-used-requires : tie.Need-used-requires
-used-requires c κs = search needs
+fits-requires : tie.Need-fits-requires
+fits-requires c κs = search needs
 
 returns-2 : tie.Need-returns-2
-returns-2 c = simp (c .used .ensures) (mask-allowed (c .before .before .args .word) (omega arith))
+returns-2 c = c .fits2 .ensures ∙ mask-allowed (c .before .before .args .word) (omega arith)
 
 pub is-instruction-spec : {M : Type 1} → statement M
-is-instruction-spec = tie.close (tie.spec returns used-requires returns-2)
+is-instruction-spec = tie.close (tie.spec returns fits-requires returns-2)

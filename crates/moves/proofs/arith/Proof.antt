@@ -1,8 +1,7 @@
--- `arith`, case by case.
+-- All five are made, and one is picked.
 use native.Mathlib.Omega.{arith}
 use Rattle.moves.proofs.Product.{product-fits}
-use Rattle.moves.specs.LeafLaws.{is-sum, is-difference, is-product, is-equal, is-at-most, four}
-use mathlib.Core.Path.{refl, _∙_}
+use Rattle.moves.specs.LeafLaws.{is-arithmetic}
 use borrow.Author.Needs.{needs}
 use Rattle.moves.proofs.arith.Statement.{statement}
 use Rattle.moves.proofs.arith.Tie as tie
@@ -10,48 +9,48 @@ use Rattle.moves.proofs.arith.Tie as tie
 wrapping-add-u32-requires : tie.Need-wrapping-add-u32-requires
 wrapping-add-u32-requires c κs = search needs
 
-returns : tie.Need-returns
-returns c = is-sum _ _ _ (c .before .if2 .taken) _ (c .wrapping-add-u32 .ensures)
-
 wrapping-sub-u32-requires : tie.Need-wrapping-sub-u32-requires
 wrapping-sub-u32-requires c κs = search needs
 
-returns-2 : tie.Need-returns-2
-returns-2 c = is-difference _ _ _ (four _ (c .before .before .before .pre) (c .before .before .if1 .taken) (c .before .if2 .left)) (omega arith) (omega arith) _ (omega arith) (c .wrapping-sub-u32 .ensures)
+mul-product : tie.Need-mul-product
+mul-product c = record { fits = product-fits 32 (omega arith) (omega arith) }
 
-mul-result : tie.Need-mul-result
-mul-result c = record { fits = product-fits 32 (omega arith) (omega arith) }
+cast-product : tie.Need-cast-product
+cast-product c = search needs
 
-cast-result : tie.Need-cast-result
-cast-result c = search needs
+pick-requires : tie.Need-pick-requires
+pick-requires c κs = search needs
 
-returns-3 : tie.Need-returns-3
-returns-3 c = is-product _ _ _ (c .if3 .taken)
+pick-requires-2 : tie.Need-pick-requires-2
+pick-requires-2 c κs = search needs
 
-bit-requires : tie.Need-bit-requires
-bit-requires c κs = search needs
+pick-requires-3 : tie.Need-pick-requires-3
+pick-requires-3 c κs = search needs
 
-returns-4 : tie.Need-returns-4
-returns-4 c = c .bit .ensures ∙ is-equal _ _ _ (c .before .if4 .taken) _ refl
+pick-requires-4 : tie.Need-pick-requires-4
+pick-requires-4 c κs = search needs
 
-bit-requires-2 : tie.Need-bit-requires-2
-bit-requires-2 c κs = search needs
+pick-requires-5 : tie.Need-pick-requires-5
+pick-requires-5 c κs = search needs
 
-returns-5 : tie.Need-returns-5
-returns-5 c = c .bit2 .ensures ∙ is-at-most _ _ _ (λ z. omega arith) (λ z. omega arith) (c .before .before .if3 .left) (c .before .if4 .left) _ refl
+pick-requires-6 : tie.Need-pick-requires-6
+pick-requires-6 c κs = search needs
+
+returns : tie.Need-returns
+returns c = simp (c .pick6 .ensures, c .before .pick5 .ensures, c .before .before .pick4 .ensures, c .before .before .before .pick3 .ensures) (is-arithmetic _ _ _ (c .before .before .before .before .before .before .before .before .pre) (omega arith) (omega arith) _ (c .before .before .before .before .before .before .before .wrapping-add-u32 .ensures) _ (omega arith) (c .before .before .before .before .before .before .wrapping-sub-u32 .ensures) _ (c .before .before .before .before .before .pick .ensures) _ (c .before .before .before .before .pick2 .ensures))
 
 pub arith-spec : {M : Type 1} → statement M
 arith-spec =
     tie.close
     (tie.spec
     wrapping-add-u32-requires
-    returns
     wrapping-sub-u32-requires
-    returns-2
-    mul-result
-    cast-result
-    returns-3
-    bit-requires
-    returns-4
-    bit-requires-2
-    returns-5)
+    mul-product
+    cast-product
+    pick-requires
+    pick-requires-2
+    pick-requires-3
+    pick-requires-4
+    pick-requires-5
+    pick-requires-6
+    returns)

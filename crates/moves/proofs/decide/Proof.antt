@@ -8,6 +8,9 @@ use Rattle.moves.proofs.decide.Tie as tie
 word-at-requires : tie.Need-word-at-requires
 word-at-requires c κs = search needs
 
+is-home-requires : tie.Need-is-home-requires
+is-home-requires c κs = search needs
+
 is-free-requires : tie.Need-is-free-requires
 is-free-requires c κs = search needs
 
@@ -15,7 +18,7 @@ stop-requires : tie.Need-stop-requires
 stop-requires c κs = search needs
 
 returns : tie.Need-returns
-returns c = law.not-free _ _ _ _ _ _ _ _ _ _ _ (c .before .before .before .word-at .ensures) _ _ (c .before .before .is-free .ensures) (c .before .if1 .taken) (c .stop .ensures)
+returns c = law.not-free _ _ _ _ _ _ _ _ _ _ _ _ (c .before .before .before .before .before .word-at .ensures) _ (c .before .before .before .before .is-home .ensures) (c .before .before .before .if1 .taken) _ (c .before .before .is-free .ensures) (c .before .if2 .taken) _ (c .stop .ensures)
 
 set-at-requires : tie.Need-set-at-requires
 set-at-requires c κs = search needs
@@ -27,31 +30,23 @@ stop-requires-2 : tie.Need-stop-requires-2
 stop-requires-2 c κs = search needs
 
 returns-2 : tie.Need-returns-2
-returns-2 c = law.not-come _ _ _ _ _ _ _ _ _ _ _ (c .before .before .before .before .before .before .before .word-at .ensures) _ _ (c .before .before .before .before .before .before .is-free .ensures) (c .before .before .before .before .before .if1 .left) (c .before .before .before .before .if2 .taken) _ (c .before .before .before .set-at .ensures) _ (c .before .before .jumped-in .ensures) (c .before .if3 .taken) (c .stop2 .ensures)
+returns-2 c = law.not-come _ _ _ _ _ _ _ _ _ _ _ _ (c .before .before .before .before .before .before .before .before .before .word-at .ensures) _ (c .before .before .before .before .before .before .before .before .is-home .ensures) (c .before .before .before .before .before .before .before .if1 .taken) _ (c .before .before .before .before .before .before .is-free .ensures) (c .before .before .before .before .before .if2 .left) _ (c .before .before .before .set-at .ensures) _ (c .before .before .jumped-in .ensures) (c .before .before .before .before .if3 .taken) (c .before .if4 .taken) _ (c .stop2 .ensures)
 
 word-at-requires-2 : tie.Need-word-at-requires-2
 word-at-requires-2 c κs = search needs
 
-decode-requires : tie.Need-decode-requires
-decode-requires c κs = search needs
-
-stop-requires-3 : tie.Need-stop-requires-3
-stop-requires-3 c κs = search needs
+execute-requires : tie.Need-execute-requires
+execute-requires c κs = search needs
 
 returns-3 : tie.Need-returns-3
-returns-3 c = law.no-word _ _ _ _ _ _ _ _ _ _ _ (c .before .before .before .before .before .before .before .word-at .ensures) _ _ (c .before .before .before .before .before .before .is-free .ensures) (c .before .before .before .before .before .if1 .left) (⊎-elim (λ w. law.by-jump _ _ _ _ _ (w .1 .ensures) _ (w .2 .ensures) (w .3 .left)) (λ w. law.at-home _ _ _ _ (w .left)) (c .before .before .before .before .if2 .came)) _ (c .before .before .before .word-at2 .ensures) _ (c .before .before .decode .ensures) (c .before .if4 .taken) (c .stop3 .ensures)
-
-execute-requires : tie.Need-execute-requires
-execute-requires c κs = law.fields-small _ _ (c .before .decode .ensures) (c .if4 .left)
-
-returns-4 : tie.Need-returns-4
-returns-4 c = law.a-word _ _ _ _ _ _ _ _ _ _ _ (c .before .before .before .before .before .before .before .word-at .ensures) _ _ (c .before .before .before .before .before .before .is-free .ensures) (c .before .before .before .before .before .if1 .left) (⊎-elim (λ w. law.by-jump _ _ _ _ _ (w .1 .ensures) _ (w .2 .ensures) (w .3 .left)) (λ w. law.at-home _ _ _ _ (w .left)) (c .before .before .before .before .if2 .came)) _ (c .before .before .before .word-at2 .ensures) _ (c .before .before .decode .ensures) (c .before .if4 .left) (c .execute .ensures)
+returns-3 c = law.runs _ _ _ _ _ _ _ _ _ _ _ _ (c .before .before .before .before .word-at .ensures) _ (c .before .before .before .is-home .ensures) (⊎-elim (λ w. law.by-jump _ _ _ _ _ _ _ _ _ _ _ _ (c .before .before .before .before .word-at .ensures) _ (c .before .before .before .is-home .ensures) (w .0 .taken) _ (w .1 .ensures) (w .2 .left) _ (w .4 .ensures) _ (w .5 .ensures) (w .6 .left)) (⊎-elim (λ w. law.by-own _ _ _ _ _ _ _ _ _ _ _ _ (c .before .before .before .before .word-at .ensures) _ (c .before .before .before .is-home .ensures) (w .0 .taken) _ (w .1 .ensures) (w .2 .left) (w .3 .left)) (λ w. law.at-home _ _ _ _ _ _ _ _ _ _ _ _ (c .before .before .before .before .word-at .ensures) _ (c .before .before .before .is-home .ensures) (w .left))) (c .before .before .if1 .came)) _ (c .before .word-at2 .ensures) _ (c .execute .ensures)
 
 pub decide-spec : {M : Type 1} → statement M
 decide-spec =
     tie.close
     (tie.spec
     word-at-requires
+    is-home-requires
     is-free-requires
     stop-requires
     returns
@@ -60,8 +55,5 @@ decide-spec =
     stop-requires-2
     returns-2
     word-at-requires-2
-    decode-requires
-    stop-requires-3
-    returns-3
     execute-requires
-    returns-4)
+    returns-3)

@@ -1,20 +1,19 @@
 -- `run`, need by need: the loop's invariant is the run at the place reached.
-use Prim.Native.Nat.{_<_, _≤_, _+_, _-_}
+use Prim.Native.Nat.{_<_, _-_}
 use native.Mathlib.Omega.{arith}
 use mathlib.Core.Path.{_∙_}
 use borrow.Author.Needs.{needs}
-use Rattle.machine.specs.Views.{stateOf}
-use Rattle.machine.specs.RunLaws.{Going, nothing, unformed, starts, all-used, stops, turns}
-use Rattle.machine.specs.InsideLaws.{inside-count, inside-stops, inside-less, inside-turns}
+use Rattle.service.specs.Served.{at}
+use Rattle.machine.specs.RunLaws.{Going, nothing, unformed, starts, all-used, word-stops, word-turns, service-stops, service-turns, Home, not-home, word-home}
 use Rattle.machine.proofs.Processor.run.Statement.{statement}
 use Rattle.machine.proofs.Processor.run.Tie as tie
 
 abbrev Inv-loop : tie.InvT-loop
-Inv-loop self₀ words₀ owners₀ jumpers₀ writers₀ budget count₀ self words owners jumpers writers count =
-    Going (stateOf self₀ words₀ owners₀ jumpers₀ writers₀) (stateOf self words owners jumpers writers) budget count × (budget < 4294967296)
+Inv-loop words₀ owners₀ jumpers₀ writers₀ budget count₀ n regs₀ pc₀ prev₀ jumped₀ next₀ services₀ settled₀ words owners jumpers writers count regs pc prev jumped next services settled =
+    Going (at regs₀ n pc₀ prev₀ jumped₀ next₀ services₀ words₀ owners₀ jumpers₀ writers₀) (at regs n pc prev jumped next services words owners jumpers writers) budget count × (budget < 4294967296) × Home settled prev next
 
 abbrev μ-loop : tie.MeasureT-loop
-μ-loop self₀ words₀ owners₀ jumpers₀ writers₀ budget count₀ self words owners jumpers writers count = budget - count
+μ-loop words₀ owners₀ jumpers₀ writers₀ budget count₀ n regs₀ pc₀ prev₀ jumped₀ next₀ services₀ settled₀ words owners jumpers writers count regs pc prev jumped next services settled = budget - count
 
 ended-requires : tie.Need-ended-requires Inv-loop μ-loop
 ended-requires c κs = search needs
@@ -32,28 +31,31 @@ returns-2 : tie.Need-returns-2 Inv-loop μ-loop
 returns-2 c = simp (c .ended2 .ensures) (unformed _ _ _ (c .before .before .is-formed .ensures) (c .before .before .before .if1 .left) (c .before .if2 .taken))
 
 loop-holds : tie.Need-loop-holds Inv-loop μ-loop
-loop-holds c = (starts _ _ _ (c .before .is-formed .ensures) (c .if2 .left), omega arith)
+loop-holds c = (starts _ _ _ (c .before .is-formed .ensures) (c .if2 .left), omega arith, not-home _ _)
 
-outside-requires : tie.Need-outside-requires Inv-loop μ-loop
-outside-requires c κs = let x = c .before .before .before .before .before .before .before .loop in (x .inv .0 .form, c .before .before .before .before .if3 .taken)
+serve-requires : tie.Need-serve-requires Inv-loop μ-loop
+serve-requires c κs = search needs
 
 ended-requires-3 : tie.Need-ended-requires-3 Inv-loop μ-loop
 ended-requires-3 c κs = search needs
 
 same-length : tie.Need-same-length Inv-loop μ-loop
-same-length c = let x = c .before .before .before .before .before .before .before .before .before .before .before .before .before .before .before .before .before .loop in x .inv .0 .words
+same-length c = c .before .before .before .before .before .before .before .before .before .before .before .before .before .before .before .before .loop .inv .0 .words
 
 same-length-2 : tie.Need-same-length-2 Inv-loop μ-loop
-same-length-2 c = let x = c .before .before .before .before .before .before .before .before .before .before .before .before .before .before .before .before .before .loop in c .before .before .before .before .before .before .before .before .before .outside .kept .1 .1 .0 ∙ x .inv .0 .owners
+same-length-2 c = c .before .before .before .before .before .before .before .before .serve .kept .1 .1 .1 .1 .1 .1 .1 .1 .0 ∙ c .before .before .before .before .before .before .before .before .before .before .before .before .before .before .before .before .loop .inv .0 .owners
 
 same-length-3 : tie.Need-same-length-3 Inv-loop μ-loop
-same-length-3 c = let x = c .before .before .before .before .before .before .before .before .before .before .before .before .before .before .before .before .before .loop in c .before .before .before .before .before .before .before .before .before .outside .kept .1 .1 .1 .0 ∙ x .inv .0 .jumpers
+same-length-3 c = c .before .before .before .before .before .before .before .before .serve .kept .1 .1 .1 .1 .1 .1 .1 .1 .1 .0 ∙ c .before .before .before .before .before .before .before .before .before .before .before .before .before .before .before .before .loop .inv .0 .jumpers
 
 same-length-4 : tie.Need-same-length-4 Inv-loop μ-loop
-same-length-4 c = let x = c .before .before .before .before .before .before .before .before .before .before .before .before .before .before .before .before .before .loop in c .before .before .before .before .before .before .before .before .before .outside .kept .1 .1 .1 .1 .0 ∙ x .inv .0 .writers
+same-length-4 c = c .before .before .before .before .before .before .before .before .serve .kept .1 .1 .1 .1 .1 .1 .1 .1 .1 .1 .0 ∙ c .before .before .before .before .before .before .before .before .before .before .before .before .before .before .before .before .loop .inv .0 .writers
 
 returns-3 : tie.Need-returns-3 Inv-loop μ-loop
-returns-3 c = let x = c .before .before .before .before .before .before .before .before .before .before .before .before .before .before .before .before .before .loop in simp (c .ended3 .ensures) (stops _ _ _ _ (x .inv .0) (c .before .before .before .before .before .before .before .before .before .before .before .before .before .before .before .before .loop-test .taken) _ (c .before .before .before .before .before .before .before .before .before .outside .ensures) (c .before .if4 .taken))
+returns-3 c = simp (c .ended3 .ensures) (service-stops _ _ _ _ (c .before .before .before .before .before .before .before .before .before .before .before .before .before .before .before .before .loop .inv .0) (c .before .before .before .before .before .before .before .before .before .before .before .before .before .before .before .loop-test .taken) (c .before .before .before .before .before .before .before .before .before .before .before .before .before .before .if3 .taken) _ (c .before .before .before .before .before .before .before .before .serve .ensures) (c .before .if4 .taken))
+
+array-read-pc : tie.Need-array-read-pc Inv-loop μ-loop
+array-read-pc c = search needs
 
 add-count : tie.Need-add-count Inv-loop μ-loop
 add-count c = omega arith
@@ -62,58 +64,61 @@ loop-less : tie.Need-loop-less Inv-loop μ-loop
 loop-less c = omega arith
 
 loop-again : tie.Need-loop-again Inv-loop μ-loop
-loop-again c = let x = c .before .before .before .before .before .before .before .before .before .before .before .before .before .before .before .before .loop in (turns _ _ _ _ (x .inv .0) (c .before .before .before .before .before .before .before .before .before .before .before .before .before .before .before .loop-test .taken) _ (c .before .before .before .before .before .before .before .before .outside .ensures) (c .if4 .left), x .inv .1)
+loop-again c = (service-turns _ _ _ _ (c .before .before .before .before .before .before .before .before .before .before .before .before .before .before .before .before .loop .inv .0) (c .before .before .before .before .before .before .before .before .before .before .before .before .before .before .before .loop-test .taken) (c .before .before .before .before .before .before .before .before .before .before .before .before .before .before .if3 .taken) _ (c .before .before .before .before .before .before .before .before .serve .ensures) (c .before .if4 .left), c .before .before .before .before .before .before .before .before .before .before .before .before .before .before .before .before .loop .inv .1, not-home _ _)
 
-sub-inside : tie.Need-sub-inside Inv-loop μ-loop
-sub-inside c = omega arith
-
-inside-requires : tie.Need-inside-requires Inv-loop μ-loop
-inside-requires c κs = let x = c .before .before .before .before .before .before .before .loop in x .inv .0 .form
-
-add-count-2 : tie.Need-add-count-2 Inv-loop μ-loop
-add-count-2 c = let x = c .before .before .before .before .before .before .before .before .before .before .before .before .loop in let m : x .count + c .before .before .before .before .inside .result .count ≤ c .before .before .before .before .before .before .before .before .before .before .before .before .before .before .before .before .before .before .before .before .args .budget = inside-count _ _ _ _ (x .inv .0) (c .before .before .before .before .before .before .before .before .before .before .before .loop-test .taken) _ (c .before .before .before .before .inside .ensures) in omega arith
+decide-requires : tie.Need-decide-requires Inv-loop μ-loop
+decide-requires c κs = search needs
 
 ended-requires-4 : tie.Need-ended-requires-4 Inv-loop μ-loop
 ended-requires-4 c κs = search needs
 
 same-length-5 : tie.Need-same-length-5 Inv-loop μ-loop
-same-length-5 c = let x = c .before .before .before .before .before .before .before .before .before .before .before .before .before .before .loop in c .before .before .before .before .before .before .inside .kept .1 .0 ∙ x .inv .0 .words
+same-length-5 c = c .before .before .before .before .before .before .before .before .before .before .loop .inv .0 .words
 
 same-length-6 : tie.Need-same-length-6 Inv-loop μ-loop
-same-length-6 c = let x = c .before .before .before .before .before .before .before .before .before .before .before .before .before .before .loop in x .inv .0 .owners
+same-length-6 c = c .before .before .before .before .before .before .before .before .before .before .loop .inv .0 .owners
 
 same-length-7 : tie.Need-same-length-7 Inv-loop μ-loop
-same-length-7 c = let x = c .before .before .before .before .before .before .before .before .before .before .before .before .before .before .loop in x .inv .0 .jumpers
+same-length-7 c = c .before .before .before .before .before .before .before .before .before .before .loop .inv .0 .jumpers
 
 same-length-8 : tie.Need-same-length-8 Inv-loop μ-loop
-same-length-8 c = let x = c .before .before .before .before .before .before .before .before .before .before .before .before .before .before .loop in x .inv .0 .writers
+same-length-8 c = c .before .before .before .before .before .before .before .before .before .before .loop .inv .0 .writers
 
 returns-4 : tie.Need-returns-4 Inv-loop μ-loop
-returns-4 c = let x = c .before .before .before .before .before .before .before .before .before .before .before .before .before .before .loop in simp (c .ended4 .ensures) (inside-stops _ _ _ _ (x .inv .0) (c .before .before .before .before .before .before .before .before .before .before .before .before .before .loop-test .taken) _ (c .before .before .before .before .before .before .inside .ensures) (c .before .if5 .taken))
+returns-4 c = simp (c .ended4 .ensures) (word-stops _ _ _ _ (c .before .before .before .before .before .before .before .before .before .before .loop .inv .0) (c .before .before .before .before .before .before .before .before .before .loop-test .taken) (c .before .before .before .before .before .before .before .before .if3 .left) _ (c .before .before .before .before .before .before .before .before .before .before .loop .inv .2) _ (c .before .before .decide .ensures) (c .before .if5 .taken))
+
+put-reg-requires : tie.Need-put-reg-requires Inv-loop μ-loop
+put-reg-requires c κs = search needs
+
+put-word-requires : tie.Need-put-word-requires Inv-loop μ-loop
+put-word-requires c κs = search needs
+
+add-count-2 : tie.Need-add-count-2 Inv-loop μ-loop
+add-count-2 c = omega arith
 
 loop-less-2 : tie.Need-loop-less-2 Inv-loop μ-loop
-loop-less-2 c = let x = c .before .before .before .before .before .before .before .before .before .before .before .before .before .loop in inside-less _ _ _ _ (x .inv .0) (c .before .before .before .before .before .before .before .before .before .before .before .before .loop-test .taken) _ (c .before .before .before .before .before .inside .ensures) (c .before .before .before .before .before .before .before .before .before .before .if3 .left) (c .if5 .left)
+loop-less-2 c = omega arith
 
 loop-again-2 : tie.Need-loop-again-2 Inv-loop μ-loop
-loop-again-2 c = let x = c .before .before .before .before .before .before .before .before .before .before .before .before .before .loop in (inside-turns _ _ _ _ (x .inv .0) (c .before .before .before .before .before .before .before .before .before .before .before .before .loop-test .taken) _ (c .before .before .before .before .before .inside .ensures) (c .if5 .left), x .inv .1)
+loop-again-2 c = (word-turns _ _ _ _ (c .before .before .before .before .before .before .before .before .before .before .before .before .before .before .before .loop .inv .0) (c .before .before .before .before .before .before .before .before .before .before .before .before .before .before .loop-test .taken) (c .before .before .before .before .before .before .before .before .before .before .before .before .before .if3 .left) _ (c .before .before .before .before .before .before .before .before .before .before .before .before .before .before .before .loop .inv .2) _ (c .before .before .before .before .before .before .before .decide .ensures) (c .before .before .before .before .before .before .if5 .left) _ _ (c .before .before .before .before .put-reg .ensures) (c .before .before .put-word .ensures), c .before .before .before .before .before .before .before .before .before .before .before .before .before .before .before .loop .inv .1, word-home _ _ _ _ (c .before .before .before .before .before .before .before .before .before .before .before .before .before .before .before .loop .inv .0) (c .before .before .before .before .before .before .before .before .before .before .before .before .before .before .loop-test .taken) (c .before .before .before .before .before .before .before .before .before .before .before .before .before .if3 .left) _ (c .before .before .before .before .before .before .before .before .before .before .before .before .before .before .before .loop .inv .2) _ (c .before .before .before .before .before .before .before .decide .ensures) (c .before .before .before .before .before .before .if5 .left))
 
 ended-requires-5 : tie.Need-ended-requires-5 Inv-loop μ-loop
 ended-requires-5 c κs = search needs
 
 same-length-9 : tie.Need-same-length-9 Inv-loop μ-loop
-same-length-9 c = let x = c .before .before .loop in x .inv .0 .words
+same-length-9 c = c .before .before .loop .inv .0 .words
 
 same-length-10 : tie.Need-same-length-10 Inv-loop μ-loop
-same-length-10 c = let x = c .before .before .loop in x .inv .0 .owners
+same-length-10 c = c .before .before .loop .inv .0 .owners
 
 same-length-11 : tie.Need-same-length-11 Inv-loop μ-loop
-same-length-11 c = let x = c .before .before .loop in x .inv .0 .jumpers
+same-length-11 c = c .before .before .loop .inv .0 .jumpers
 
 same-length-12 : tie.Need-same-length-12 Inv-loop μ-loop
-same-length-12 c = let x = c .before .before .loop in x .inv .0 .writers
+same-length-12 c = c .before .before .loop .inv .0 .writers
 
 returns-5 : tie.Need-returns-5 Inv-loop μ-loop
-returns-5 c = let x = c .before .before .loop in simp (c .ended5 .ensures) (all-used _ _ _ _ (x .inv .0) (c .before .loop-test .left))
+returns-5 c = simp (c .ended5 .ensures) (all-used _ _ _ _ (c .before .before .loop .inv .0) (c .before .loop-test .left))
 
 pub run-spec : {M : Type 1} → statement M
 run-spec =
@@ -127,25 +132,27 @@ run-spec =
     ended-requires-2
     returns-2
     loop-holds
-    outside-requires
+    serve-requires
     ended-requires-3
     same-length
     same-length-2
     same-length-3
     same-length-4
     returns-3
+    array-read-pc
     add-count
     loop-less
     loop-again
-    sub-inside
-    inside-requires
-    add-count-2
+    decide-requires
     ended-requires-4
     same-length-5
     same-length-6
     same-length-7
     same-length-8
     returns-4
+    put-reg-requires
+    put-word-requires
+    add-count-2
     loop-less-2
     loop-again-2
     ended-requires-5

@@ -1,0 +1,115 @@
+-- What a step at a service comes to, and what is seen of it.
+use mathlib.Core.Bool.{Bool, cond, _&&_}
+use mathlib.Core.List.{List, []}
+use Prim.Native.Nat.{ℕ}
+use lib.Dec.{eqb}
+use lib.ListN.{getD}
+use Rattle.common.specs.Answers as answer
+use Rattle.common.specs.Instructions.{plus}
+use Rattle.common.specs.Services as service
+use Rattle.rules.specs.Compartments.{member, empty}
+use Rattle.rules.specs.State.{State}
+use Rattle.monitor.specs.Outcomes.{called, Isolating, isolating, Adding, adding}
+use Rattle.service.specs.declared.Served.{Served}
+
+-- the processor's numbers and the lent memories, as a state
+abbrev pub at : List ℕ → ℕ → ℕ → ℕ → Bool → ℕ → List ℕ → List ℕ → List ℕ → List ℕ → List ℕ → State
+at regs n pc prev jumped next services words owners jumpers writers =
+    record {
+      cpu = record { n = n; regs = regs; pc = pc; prev = prev; jumped = jumped; next = next; services = services };
+      words = words;
+      owners = owners;
+      jumpers = jumpers;
+      writers = writers;
+    }
+
+-- isolate, where the caller arrives; s has the caller's numbers
+unfoldable pub isolatedBy : Bool → State → Isolating
+isolatedBy jumped s =
+    cond (jumped && member (getD (s .cpu .services) 0 empty) (s .cpu .prev)) (isolating s)
+    (record { answer = answer.no-arrival; services = s .cpu .services; owners = s .owners; jumpers = s .jumpers; writers = s .writers })
+
+-- an add over the sets, where the caller arrives
+unfoldable pub addedBy : List ℕ → ℕ → ℕ → Bool → ℕ → List ℕ → List ℕ → Adding
+addedBy regs n prev jumped gate owners sets =
+    cond (jumped && member gate prev) (adding (called regs n prev 0 [] [] owners [] []) sets)
+    (record { answer = answer.no-arrival; sets = sets })
+
+-- "next grows by 1"
+unfoldable pub grown : ℕ → ℕ → ℕ
+grown a next = cond (eqb a answer.done) (plus next 1) next
+
+-- the answer, the service's number, next, the services' sets and the three memories of tags
+pub record Serving : Type 0 where
+  pub answer : ℕ
+  pub number : ℕ
+  pub next : ℕ
+  pub services : List ℕ
+  pub owners : List ℕ
+  pub jumpers : List ℕ
+  pub writers : List ℕ
+
+abbrev pub servedOf : Served → List ℕ → List ℕ → List ℕ → Serving
+servedOf r owners jumpers writers =
+    record { answer = r .answer; number = r .number; next = r .next; services = r .services; owners = owners; jumpers = jumpers; writers = writers }
+
+abbrev pub callOf : State → State
+callOf s = called (s .cpu .regs) (s .cpu .n) (s .cpu .prev) (s .cpu .next) (s .cpu .services) (s .words) (s .owners) (s .jumpers) (s .writers)
+
+abbrev pub addOf : State → ℕ → List ℕ → Adding
+addOf s i sets = addedBy (s .cpu .regs) (s .cpu .n) (s .cpu .prev) (s .cpu .jumped) (getD (s .cpu .services) i empty) (s .owners) sets
+
+-- what each of the three leaves
+abbrev pub isolates : State → Isolating → Serving
+isolates s o =
+    record {
+      answer = o .answer;
+      number = 1;
+      next = grown (o .answer) (s .cpu .next);
+      services = o .services;
+      owners = o .owners;
+      jumpers = o .jumpers;
+      writers = o .writers;
+    }
+
+abbrev pub adds-jump : State → Adding → Serving
+adds-jump s o =
+    record {
+      answer = o .answer;
+      number = 2;
+      next = s .cpu .next;
+      services = s .cpu .services;
+      owners = s .owners;
+      jumpers = o .sets;
+      writers = s .writers;
+    }
+
+abbrev pub adds-store : State → Adding → Serving
+adds-store s o =
+    record {
+      answer = o .answer;
+      number = 3;
+      next = s .cpu .next;
+      services = s .cpu .services;
+      owners = s .owners;
+      jumpers = s .jumpers;
+      writers = o .sets;
+    }
+
+abbrev pub nowhere : State → Serving
+nowhere s =
+    record {
+      answer = answer.no-place;
+      number = 0;
+      next = s .cpu .next;
+      services = s .cpu .services;
+      owners = s .owners;
+      jumpers = s .jumpers;
+      writers = s .writers;
+    }
+
+unfoldable pub serving : State → Serving
+serving s =
+    cond (eqb (s .cpu .pc) service.isolate) (isolates s (isolatedBy (s .cpu .jumped) (callOf s)))
+    (cond (eqb (s .cpu .pc) service.add-jump-target) (adds-jump s (addOf s 1 (s .jumpers)))
+    (cond (eqb (s .cpu .pc) service.add-store-target) (adds-store s (addOf s 2 (s .writers))) (nowhere s)))

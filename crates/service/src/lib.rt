@@ -1,0 +1,154 @@
+// A step at a service: 2, 4, the service's own checks, then its work on the tags.
+ghost use mathlib.Core.Path.{_≡_};
+ghost use mathlib.Core.Bool.{_&&_};
+ghost use Rattle.rules.specs.Compartments.{member};
+ghost use Rattle.monitor.specs.Outcomes.{called, isolatingOf, addingOf};
+ghost use Rattle.service.specs.Served.{at, servedOf, serving, grown, isolatedBy, addedBy};
+use compartments::Set;
+use monitor::Isolated;
+
+// The answer; and where it is 0, the service's number, the first unused compartment number and the sets I of the three services.
+pub struct Served {
+    pub answer: u32,
+    pub number: u32,
+    pub next: u32,
+    pub services: [u64; 3],
+}
+
+// 4: the flag is set and the caller is in the service's set. No service calls (14).
+fn arrives(prev: u32, jumped: bool, gate: u64) -> bool
+    ensures { λ r. ⌜ r ≡ (jumped && member gate prev) ⌝ }
+{
+    if !jumped {
+        return false;
+    }
+    Set(gate).contains(prev)
+}
+
+// At 4096.
+fn isolate(
+    regs: &[u32; 16],
+    n: u32,
+    prev: u32,
+    jumped: bool,
+    next: u32,
+    services: [u64; 3],
+    words: &[u32],
+    owners: &mut [u32],
+    jumpers: &mut [u64],
+    writers: &mut [u64],
+) -> Isolated
+    ensures { λ r. ⌜ isolatingOf r (now (owners .exit)) (now (jumpers .exit)) (now (writers .exit)) ≡ isolatedBy jumped (called (now (regs .entry)) n prev next services (now (words .entry)) (now (owners .entry)) (now (jumpers .entry)) (now (writers .entry))) ⌝ }
+{
+    if !arrives(prev, jumped, services[0]) {
+        return Isolated {
+            answer: answers::NO_ARRIVAL,
+            services,
+        };
+    }
+    monitor::isolate(
+        regs,
+        n,
+        prev,
+        next,
+        services,
+        words,
+        owners,
+        jumpers,
+        writers,
+    )
+}
+
+// At 4097 over the jumpers, at 4098 over the writers; gate is the service's set.
+fn add_target(
+    regs: &[u32; 16],
+    n: u32,
+    prev: u32,
+    jumped: bool,
+    gate: u64,
+    owners: &[u32],
+    sets: &mut [u64],
+) -> u32
+    ensures { λ r. ⌜ addingOf r (now (sets .exit)) ≡ addedBy (now (regs .entry)) n prev jumped gate (now (owners .entry)) (now (sets .entry)) ⌝ }
+{
+    if !arrives(prev, jumped, gate) {
+        return answers::NO_ARRIVAL;
+    }
+    monitor::add_target(regs, n, prev, owners, sets)
+}
+
+// The first unused number after isolate answered.
+fn grown(answer: u32, next: u32) -> u32
+    ensures { λ r. ⌜ r ≡ grown answer next ⌝ }
+{
+    if answer != answers::DONE {
+        return next;
+    }
+    std::num::wrapping_add_u32(next, 1)
+}
+
+// A step where pc is not below N: 2, or a service.
+pub fn serve(
+    regs: &[u32; 16],
+    n: u32,
+    pc: u32,
+    prev: u32,
+    jumped: bool,
+    next: u32,
+    services: [u64; 3],
+    words: &[u32],
+    owners: &mut [u32],
+    jumpers: &mut [u64],
+    writers: &mut [u64],
+) -> Served
+    ensures { λ r. ⌜ servedOf r (now (owners .exit)) (now (jumpers .exit)) (now (writers .exit)) ≡ serving (at (now (regs .entry)) n pc prev jumped next services (now (words .entry)) (now (owners .entry)) (now (jumpers .entry)) (now (writers .entry))) ⌝ }
+{
+    match pc {
+        4096 => {
+            let i = isolate(
+                regs,
+                n,
+                prev,
+                jumped,
+                next,
+                services,
+                words,
+                owners,
+                jumpers,
+                writers,
+            );
+            let answer = i.answer;
+            let made = i.services;
+            Served {
+                answer,
+                number: 1,
+                next: grown(answer, next),
+                services: made,
+            }
+        }
+        4097 => {
+            let answer = add_target(regs, n, prev, jumped, services[1], owners, jumpers);
+            Served {
+                answer,
+                number: 2,
+                next,
+                services,
+            }
+        }
+        4098 => {
+            let answer = add_target(regs, n, prev, jumped, services[2], owners, writers);
+            Served {
+                answer,
+                number: 3,
+                next,
+                services,
+            }
+        }
+        _ => Served {
+            answer: answers::NO_PLACE,
+            number: 0,
+            next,
+            services,
+        },
+    }
+}
