@@ -62,7 +62,7 @@ pub fn run_image(bytes: &[u8]) {
     let mut owners = [0u32; 2048];
     let mut jumpers = [0u64; 2048];
     let mut writers = [0u64; 2048];
-    let l = images::load(bytes, &mut words, &mut owners, &mut jumpers, &mut writers);
+    let l = loader::load(bytes, &mut words, &mut owners, &mut jumpers, &mut writers);
     let answer = l.answer;
     if answer != answers::DONE {
         field(b"refused ", answer);

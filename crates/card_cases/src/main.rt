@@ -60,7 +60,7 @@ fn front(s: &[u8], bytes: &[u8], length: usize) {
 fn case(s: &[u8], words: &[u32]) {
     let mut out = [0u8; 8273];
     let regs = [0u32; 16];
-    let w = images::write(words, &regs, 0, &mut out);
+    let w = writer::write(words, &regs, 0, &mut out);
     front(s, &out, w.length);
 }
 
@@ -379,7 +379,7 @@ fn longest() {
     let words = [0x0D000000u32; 2048];
     let regs = [1u32; 16];
     let mut out = [0u8; 8273];
-    images::write(&words, &regs, 2047, &mut out);
+    writer::write(&words, &regs, 2047, &mut out);
     front(b"1: the longest image", &out, 8272);
     image(b"26: an input longer than any image", &out);
 }

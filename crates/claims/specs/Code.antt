@@ -23,9 +23,10 @@ use Rattle.machine.specs.declared.Processor.{Processor}
 use Rattle.machine.specs.declared.Stepped.{Stepped}
 use Rattle.machine.specs.declared.Ran.{Ran}
 use Rattle.machine.specs.Views.{processorOf, stateOf, steppedOf, ranOf}
-use Rattle.images.specs.declared.Loaded.{Loaded}
-use Rattle.images.specs.declared.Written.{Written}
-use Rattle.images.specs.Promises.{lent, loadedOf, writtenOf}
+use Rattle.loader.specs.declared.Loaded.{Loaded}
+use Rattle.loader.specs.Promises.{lent, loadedOf}
+use Rattle.writer.specs.declared.Written.{Written}
+use Rattle.writer.specs.Promises.{writtenOf}
 use Rattle.host.specs.Promises.{loadedBy, ranBy}
 use Rattle.claims.specs.Demands as demands
 
@@ -99,7 +100,7 @@ image-reads-back words regs entry out w out′ words₀ owners₀ jumpers₀ wri
     let e = k ∙ ap (λ m. load (take (m .length) (m .out)) (lent words₀ owners₀ jumpers₀ writers₀)) h ∙ d .1 in
     (ap (λ m. m .answer) h ∙ d .0, ap (λ m. m .answer) e, ap (λ m. m .state .cpu .n) e, ap (λ m. m .state .cpu .regs) e, ap (λ m. m .state .cpu .pc) e, ap (λ m. m .state .words) e)
 
--- ---- 3. from any outcome of images::load with answer 0, over any lent memories, and any outcome of Processor::run from
+-- ---- 3. from any outcome of loader::load with answer 0, over any lent memories, and any outcome of Processor::run from
 -- the record and the memories that it left, with any budget; no one else touches them
 
 abbrev start : List ℕ → paper.State

@@ -51,8 +51,12 @@ use Rattle.machine.specs.declared.Ran as code-run
 use Rattle.machine.specs.Views.{stateOf, steppedOf, ranOf}
 use Rattle.machine.specs.Promises as machine
 use Rattle.machine.specs.Promises.{Left}
-use Rattle.images.specs.Promises as images
-use Rattle.images.specs.Promises.{lent, loadedOf, writtenOf}
+use Rattle.reader.specs.declared.Image.{Image}
+use Rattle.reader.specs.Promises as reader
+use Rattle.loader.specs.Promises as loader
+use Rattle.loader.specs.Promises.{lent, loadedOf}
+use Rattle.writer.specs.Promises as writer
+use Rattle.writer.specs.Promises.{writtenOf}
 use Rattle.host.specs.Promises as host
 use Rattle.host.specs.Promises.{loadedBy, steppedBy, ranBy, DecodeOutcome, encodedBy, writtenBy}
 
@@ -324,15 +328,23 @@ pub run-once : (self : Processor) (words owners jumpers writers : List ℕ) (bud
     → ranOf (p .result) (p .words) (p .owners) (p .jumpers) (p .writers) ≡ run budget (stateOf self words owners jumpers writers) → o ≡ p
 run-once = machine.run-once
 
--- images: load, with the four memories; write, with the buffer
-pub load-once : (bytes words owners jumpers writers : List ℕ) (o p : images.LoadOutcome)
+-- reader: number; read, which is lent the bytes and changes nothing
+pub number-once : (b0 b1 b2 b3 r q : ℕ) → r ≡ field (b0 ∷ b1 ∷ b2 ∷ b3 ∷ []) 0 → q ≡ field (b0 ∷ b1 ∷ b2 ∷ b3 ∷ []) 0 → r ≡ q
+number-once = reader.number-once
+
+pub image-read-once : (lent : ℕ) (bytes : List ℕ) (r q : Image) → r ≡ reader.imageOf lent bytes → q ≡ reader.imageOf lent bytes → r ≡ q
+image-read-once = reader.read-once
+
+-- loader: load, with the four memories
+pub load-once : (bytes words owners jumpers writers : List ℕ) (o p : loader.LoadOutcome)
     → loadedOf (o .result) (o .words) (o .owners) (o .jumpers) (o .writers) ≡ load bytes (lent words owners jumpers writers)
     → loadedOf (p .result) (p .words) (p .owners) (p .jumpers) (p .writers) ≡ load bytes (lent words owners jumpers writers) → o ≡ p
-load-once = images.load-once
+load-once = loader.load-once
 
-pub write-once : (words regs : List ℕ) (entry : ℕ) (out : List ℕ) (o p : images.WriteOutcome)
+-- writer: write, with the buffer
+pub write-once : (words regs : List ℕ) (entry : ℕ) (out : List ℕ) (o p : writer.WriteOutcome)
     → writtenOf (o .result) (o .out) ≡ write words regs entry out → writtenOf (p .result) (p .out) ≡ write words regs entry out → o ≡ p
-write-once = images.write-once
+write-once = writer.write-once
 
 -- host: kl_load, kl_step, kl_run, with the record and the four memories, and for kl_run the count
 pub kl-load-once : (bytes words owners jumpers writers : List ℕ) (o p : host.Outcome)

@@ -11,7 +11,7 @@ use Rattle.rules.specs.Images as images
 use Rattle.rules.specs.Counts.{ownedCount, jumpCount, storeCount, widest}
 use Rattle.machine.specs.Views.{stateOf, processorOf}
 use Rattle.machine.specs.declared.Processor.{Processor}
-use Rattle.images.specs.Promises.{lent}
+use Rattle.loader.specs.Promises.{lent}
 use Rattle.report.specs.Promises as report
 
 -- ---- what the contracts see

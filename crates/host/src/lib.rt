@@ -7,7 +7,7 @@ ghost use Rattle.rules.specs.Run.{run};
 ghost use Rattle.rules.specs.Images.{load, write};
 ghost use Rattle.rules.specs.Counts.{ownedCount, jumpCount, storeCount, widest};
 ghost use Rattle.machine.specs.Views.{stateOf};
-ghost use Rattle.images.specs.Promises.{lent};
+ghost use Rattle.loader.specs.Promises.{lent};
 ghost use Rattle.host.specs.Promises.{loadedBy, steppedBy, ranBy, decodedBy, laidOut, encodedBy, writtenBy};
 use machine::Processor;
 
@@ -23,7 +23,7 @@ pub extern "C" fn kl_load(
 ) -> u32
     ensures { λ r. ⌜ loadedBy (now (cpu .exit)) r (now (words .exit)) (now (owners .exit)) (now (jumpers .exit)) (now (writers .exit)) ≡ load (now (bytes .entry)) (lent (now (words .entry)) (now (owners .entry)) (now (jumpers .entry)) (now (writers .entry))) ⌝ }
 {
-    let l = images::load(bytes, words, owners, jumpers, writers);
+    let l = loader::load(bytes, words, owners, jumpers, writers);
     *cpu = l.cpu;
     l.answer
 }
@@ -94,7 +94,7 @@ pub extern "C" fn kl_write(
 ) -> u32
     ensures { λ r. ⌜ writtenBy r (now (length .exit)) (now (out .exit)) ≡ write (now (words .entry)) (now (regs .entry)) entry (now (out .entry)) ⌝ }
 {
-    let w = images::write(words, regs, entry, out);
+    let w = writer::write(words, regs, entry, out);
     *length = w.length;
     w.answer
 }

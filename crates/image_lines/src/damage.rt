@@ -24,7 +24,7 @@ fn answer_of(bytes: &[u8]) -> u32 {
     let mut owners = [22u32; 4];
     let mut jumpers = [33u64; 4];
     let mut writers = [44u64; 4];
-    let r = images::load(bytes, &mut words, &mut owners, &mut jumpers, &mut writers);
+    let r = loader::load(bytes, &mut words, &mut owners, &mut jumpers, &mut writers);
     let answer = r.answer;
     if answer == answers::DONE {
         return answer;

@@ -47,7 +47,7 @@ fn show_over(
     writers: &mut [u64],
 ) {
     mark(words, owners, jumpers, writers);
-    let r = images::load(bytes, words, owners, jumpers, writers);
+    let r = loader::load(bytes, words, owners, jumpers, writers);
     field(b"answer", r.answer as u64);
     show_cpu(r.cpu);
     show_memories(words, owners, jumpers, writers);

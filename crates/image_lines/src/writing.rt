@@ -14,7 +14,7 @@ use crate::showing::text;
 // Writes what was loaded, and compares: the same bytes, and the mark beyond them.
 fn show_rewritten(bytes: &[u8], words: &[u32], regs: &[u32; 16], entry: u32, out: &mut [u8]) {
     building::mark_bytes(out, 170);
-    let w = images::write(words, regs, entry, out);
+    let w = writer::write(words, regs, entry, out);
     field(b"answer", w.answer as u64);
     field(b"length", w.length as u64);
     let length = building::within(w.length, out.len());
@@ -28,7 +28,7 @@ fn show_reloaded(bytes: &[u8]) {
     let mut owners = building::word_room();
     let mut jumpers = building::set_room();
     let mut writers = building::set_room();
-    let r = images::load(bytes, &mut words, &mut owners, &mut jumpers, &mut writers);
+    let r = loader::load(bytes, &mut words, &mut owners, &mut jumpers, &mut writers);
     let cpu = r.cpu;
     let regs = cpu.regs;
     let n = building::within(cpu.n as usize, 2050);
@@ -57,7 +57,7 @@ pub(crate) fn show_rewriting() {
 // What the writer answers and leaves, and what is loaded from what it wrote.
 fn show_written(words: &[u32], regs: &[u32; 16], entry: u32, out: &mut [u8]) {
     building::mark_bytes(out, 170);
-    let w = images::write(words, regs, entry, out);
+    let w = writer::write(words, regs, entry, out);
     field(b"answer", w.answer as u64);
     field(b"length", w.length as u64);
     field(b"out", showing::sum_of_bytes(out));

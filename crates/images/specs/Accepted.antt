@@ -1,17 +1,17 @@
--- What acceptance says of an image, and that an image of which this holds is accepted.
-use mathlib.Core.Path.{_≡_, refl}
+-- What acceptance says of an image, that an image of which this holds is accepted, and what a refusal leaves.
+use mathlib.Core.Path.{_≡_, refl, _∙_}
 use mathlib.Core.Bool.{Bool, true, false, cond, _&&_}
 use mathlib.Core.List.{List}
 use Prim.Native.Nat.{ℕ, _+_, _*_, _≤_, _<_}
 use native.Mathlib.Omega.{arith}
-use borrow.Author.Tests.{ltb-true, leb-true, eqb-true, lt-ltb, le-leb, eq-eqb}
+use borrow.Author.Tests.{ltb-true, leb-true, eqb-true, lt-ltb, le-leb, eq-eqb, ne-eqb}
 use lib.Dec.{ltb, leb, eqb}
 use lib.ListN.{length}
 use Rattle.common.specs.Answers as answer
 use Rattle.common.specs.Tests.{both}
 use Rattle.rules.specs.State.{State}
 use Rattle.rules.specs.Checks.{sameLengths}
-use Rattle.rules.specs.Images.{field, whole, sizeIn, registersAt, registersIn, entryAt, entryIn, lastListed, entryVerdict, registersVerdict, imageVerdict, loadVerdict, load}
+use Rattle.rules.specs.Images.{field, whole, sizeIn, registersAt, registersIn, entryAt, entryIn, lastListed, entryVerdict, registersVerdict, imageVerdict, loadVerdict, notLoaded, load}
 
 pub record Accepted (lent : ℕ) (bytes : List ℕ) : Type 0 where
   pub size-least : 1 ≤ sizeIn bytes
@@ -24,7 +24,7 @@ pub record Accepted (lent : ℕ) (bytes : List ℕ) : Type 0 where
   pub length-is : length bytes ≡ 16 + 4 * sizeIn bytes + 4 * registersIn bytes
 
 -- a check whose refusal is no 0 was passed
-passed : (t : Bool) (rest refusal : ℕ) → 0 < refusal → cond t rest refusal ≡ 0 → (t ≡ true) × (rest ≡ 0)
+pub passed : (t : Bool) (rest refusal : ℕ) → 0 < refusal → cond t rest refusal ≡ 0 → (t ≡ true) × (rest ≡ 0)
 passed true rest refusal p h = (refl, h)
 passed false rest refusal p h = absurd (omega arith)
 
@@ -83,3 +83,8 @@ pub accepts-load : (bytes : List ℕ) (old : State) → AcceptedOver bytes old �
 unfolding load loadVerdict sameLengths
 accepts-load bytes old f =
     simp (eq-eqb _ _ (f .owners), eq-eqb _ _ (f .jumpers), eq-eqb _ _ (f .writers)) (accepts _ bytes (f .image))
+
+-- a refusal leaves the blank record and the memories
+pub refuses : (bytes : List ℕ) (old : State) (v : ℕ) → v ≡ loadVerdict bytes old → (v ≡ 0 → ⊥) → record { answer = v; state = notLoaded old } ≡ load bytes old
+unfolding load
+refuses bytes old v e ne = simp (ne-eqb (loadVerdict bytes old) 0 (λ z. ne (e ∙ z)), e)

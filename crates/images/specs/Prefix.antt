@@ -12,8 +12,7 @@ use Rattle.common.specs.Tests.{both}
 use Rattle.rules.specs.State.{State}
 use Rattle.rules.specs.Checks.{sameLengths}
 use Rattle.rules.specs.Images.{field, whole, sizeIn, registersAt, registersIn, entryAt, entryIn, lastListed, entryVerdict, registersVerdict, imageVerdict, loadVerdict, load}
-use Rattle.images.specs.Accepted.{load-accepted}
-use Rattle.images.specs.Loading.{refuses}
+use Rattle.images.specs.Accepted.{load-accepted, refuses}
 
 -- four checks in a row, of which the last two and the rest agree where the second is passed
 same : (a b c d a′ b′ c′ d′ : Bool) (x x′ r1 r2 r3 r4 : ℕ) → a ≡ a′ → b ≡ b′ → (b′ ≡ true → (c ≡ c′) × (d ≡ d′) × (x ≡ x′))

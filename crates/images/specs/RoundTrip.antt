@@ -10,14 +10,14 @@ use native.Mathlib.Omega.{arith}
 use borrow.Author.Tests.{ltb-true, lt-ltb, eqb-true, eqb-false, eq-eqb, ne-eqb}
 use lib.Dec.{ltb, eqb}
 use lib.ListN.{getD, length, take, drop, replicate, length-append, List·getD-append}
-use lib.Seq.{drop-cons, drop-drop, drop-append-add, take-add, take-all, take-append-seam, take-at, getD-append-add, getD-take}
+use lib.Seq.{drop-cons, drop-drop, drop-append-add, take-add, take-all, take-append-seam, getD-append-add, getD-take}
 use Rattle.common.specs.Answers as answer
 use Rattle.rules.specs.State.{State}
 use Rattle.rules.specs.Images.{field, fields, sizeIn, registersAt, registersIn, entryAt, entryIn, wordsOf, regsOf, lastListed, over, loaded, load, fourBytes, allBytes, section, listed, imageBytes, Written, write}
 use Rattle.images.specs.Accepted.{Accepted, load-accepted, accepts-load}
-use Rattle.images.specs.Filling.{length-fields, getD-fields, all-bytes-append}
+use Rattle.images.specs.Filling.{length-fields, getD-fields}
 use Rattle.images.specs.Listed.{listed-short, listed-last, listed-take, listed-rest, listed-front}
-use Rattle.images.specs.Writing.{length-image, written}
+use Rattle.images.specs.Sections.{all-bytes-append, length-image, written}
 
 load-state : (bytes : List ℕ) (old : State) → load bytes old .answer ≡ answer.done → load bytes old .state ≡ loaded (wordsOf bytes) (regsOf bytes) (entryIn bytes) old
 unfolding load
@@ -124,12 +124,13 @@ written-again bytes old out small h room =
     let a = f .image in
     let back = image-back (length (old .words)) bytes a small in
     let n = length-fields bytes 4 (sizeIn bytes) in
-    let len : length bytes ≡ 16 + 4 * length (wordsOf bytes) + 4 * length (listed (regsOf bytes)) = ap length (sym back) ∙ length-image (wordsOf bytes) (regsOf bytes) (entryIn bytes) in
+    let len = ap length back in
     let s1 = a .size-least in
     let s2 = a .size-most in
     let s3 = a .entry-below in
-    let w = written (wordsOf bytes) (regsOf bytes) (entryIn bytes) out (omega arith) (omega arith) (omega arith) (length (listed (regsOf bytes))) refl (omega arith) in
-    write-loaded (wordsOf bytes) (regsOf bytes) (entryIn bytes) old out (load bytes old .state) (load-state bytes old h) ∙ sym w ∙ simp (← len, back)
+    write-loaded (wordsOf bytes) (regsOf bytes) (entryIn bytes) old out (load bytes old .state) (load-state bytes old h)
+    ∙ written (wordsOf bytes) (regsOf bytes) (entryIn bytes) out (omega arith) (omega arith) (omega arith) (omega arith)
+    ∙ ap (λ (b : List ℕ). record { answer = answer.done; length = length b; out = over b out }) back
 
 -- ---- (b) from numbers to bytes and back
 
@@ -339,10 +340,9 @@ pub read-again : (words regs : List ℕ) (entry : ℕ) (out : List ℕ) (old : S
     × (load (take (write words regs entry out .length) (write words regs entry out .out)) old
     ≡ record { answer = answer.done; state = loaded words regs entry old })
 read-again words regs entry out old least most words-small sixteen regs-small below fits room o j w =
-    let l = length-image words regs entry in
-    let done : record { answer = answer.done; length = 16 + 4 * length words + 4 * length (listed regs); out = over (imageBytes words regs entry) out } ≡ write words regs entry out = written words regs entry out least most below (length (listed regs)) refl (omega arith) in
-    let front : take (16 + 4 * length words + 4 * length (listed regs)) (over (imageBytes words regs entry) out) ≡ imageBytes words regs entry = take-at (imageBytes words regs entry) (drop (length (imageBytes words regs entry)) out) (16 + 4 * length words + 4 * length (listed regs)) l in (
-      ap (λ (r : Written). r .answer) (sym done),
-      ap (λ (r : Written). load (take (r .length) (r .out)) old) (sym done) ∙ ap (λ (b : List ℕ). load b old) front
+    let done = written words regs entry out least most below fits in (
+      ap (λ (r : Written). r .answer) done,
+      ap (λ (r : Written). load (take (r .length) (r .out)) old) done
+          ∙ ap (λ (b : List ℕ). load b old) (take-append-seam (imageBytes words regs entry) (drop (length (imageBytes words regs entry)) out))
           ∙ load-image words regs entry least most words-small sixteen regs-small below old room o j w,
     )

@@ -52,7 +52,7 @@ fn show_run(bytes: &[u8], next: u32, budget: u32) {
     let mut owners = word_room();
     let mut jumpers = set_room();
     let mut writers = set_room();
-    let l = images::load(bytes, &mut words, &mut owners, &mut jumpers, &mut writers);
+    let l = loader::load(bytes, &mut words, &mut owners, &mut jumpers, &mut writers);
     let mut cpu = l.cpu;
     cpu.next = next;
     let r = cpu.run(&mut words, &mut owners, &mut jumpers, &mut writers, budget);
@@ -76,7 +76,7 @@ pub(crate) fn show_from(
 ) {
     text(name);
     let mut image = image_room();
-    let w = images::write(words, regs, entry, &mut image);
+    let w = writer::write(words, regs, entry, &mut image);
     let length = within(w.length, 8272);
     show_run(&image[..length], next, budget);
 }

@@ -40,9 +40,9 @@ use denote.Triple.Walked.{Stays, stay-ref, stay-none-slice, gave-slice, walkOf, 
 use Rattle.machine.specs.declared.Processor.{Processor}
 use Rattle.machine.proofs.Processor as T
 use Rattle.machine.proofs.Processor.Laws as T′
-use Rattle.images.specs.declared.Loaded.{Loaded}
-use Rattle.images.proofs.Loaded as S
-use Rattle.images.proofs.Loaded.Laws as S′
+use Rattle.loader.specs.declared.Loaded.{Loaded}
+use Rattle.loader.proofs.Loaded as S
+use Rattle.loader.proofs.Loaded.Laws as S′
 use Rattle.walks.proofs.Vouched.{vouched}
 use Rattle.walks.proofs.Pieces.{value, slice, lendOn}
 

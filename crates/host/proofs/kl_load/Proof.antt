@@ -6,11 +6,11 @@ use contract.Running.{givenOf, tables, tablesOf}
 use denote.Triple.Spec.{tripleOf}
 use denote.Triple.Table.{entered, cited}
 use Rattle.rules.specs.Images.{load}
-use Rattle.images.specs.Promises.{lent, loadedOf}
+use Rattle.loader.specs.Promises.{lent, loadedOf}
 use Rattle.walks.proofs.Loading.{meets}
-use Rattle.images.proofs.load as beneath
-use Rattle.images.proofs.load.Symbol.{name, routine}
-use Rattle.images.proofs.load.Met.{met}
+use Rattle.loader.proofs.load as beneath
+use Rattle.loader.proofs.load.Symbol.{name, routine}
+use Rattle.loader.proofs.load.Met.{met}
 use Rattle.host.proofs.kl_load as f
 use Rattle.host.proofs.kl_load.Key as key
 use Rattle.host.proofs.kl_load.Statement.{statement}
@@ -23,4 +23,4 @@ kl-load-spec 𝓤 H 𝓜 𝓖 𝓡 =
     (meets (λ bytes words owners jumpers writers l words′ owners′ jumpers′ writers′. loadedOf l words′ owners′ jumpers′ writers′ ≡ load bytes (lent words owners jumpers writers)) 𝓤 H (𝓖 .A)
     (λ κs a. f.clauses 𝓤 H (𝓖 .A) (𝓜 .mem) (𝓡 .run) κs a .ensures tt) (λ κs a l words owners jumpers writers h. factI 𝓤 _ (emp 𝓤) h)
     (givenOf 𝓤 H 𝓜 𝓖) name (tablesOf 𝓤 H 𝓜 (tables 𝓤 H 𝓜 𝓡 code.env))
-    (cited 𝓤 H (tripleOf 𝓤 H (𝓖 .A) beneath.signature (beneath.spec 𝓤 H (𝓖 .A) (𝓜 .mem) (𝓡 .run))) 𝓜 𝓡 code.env name routine code.calls-images·load (met 𝓤 H 𝓜 𝓖 𝓡)))
+    (cited 𝓤 H (tripleOf 𝓤 H (𝓖 .A) beneath.signature (beneath.spec 𝓤 H (𝓖 .A) (𝓜 .mem) (𝓡 .run))) 𝓜 𝓡 code.env name routine code.calls-loader·load (met 𝓤 H 𝓜 𝓖 𝓡)))

@@ -1,0 +1,91 @@
+-- The loader's returns, in the form in which the code comes to them.
+use mathlib.Core.Path.{_≡_, refl, sym, ap, _∙_}
+use mathlib.Core.Bool.{Bool, true, false, cond, _&&_, not}
+use mathlib.Core.List.{List}
+use Prim.Native.Nat.{ℕ, _-_, _*_, _≤_}
+use native.Mathlib.Omega.{arith}
+use borrow.Author.Tests.{eqb-true, not-true, not-false}
+use lib.Dec.{eqb}
+use lib.ListN.{length, replicate}
+use Rattle.common.specs.Answers as answer
+use Rattle.rules.specs.Compartments.{empty, services}
+use Rattle.rules.specs.State.{Processor, State}
+use Rattle.rules.specs.Checks.{sameLengths}
+use Rattle.rules.specs.Images.{fields, sizeIn, entryIn, regsOf, loadVerdict, fresh, blank, over, loaded, notLoaded, load}
+use Rattle.images.specs.Accepted.{load-accepted}
+use Rattle.images.specs.Filling.{length-fields}
+use Rattle.reader.specs.declared.Image.{Image}
+use Rattle.reader.specs.Promises.{imageOf}
+use Rattle.loader.specs.Promises.{lent}
+
+abbrev refused : ℕ → Image
+refused v = record { answer = v; size = 0; regs = replicate 16 0; entry = 0 }
+
+-- what an image says for memories of these lengths, or a refusal and zeros
+unfoldable pub imageFor : List ℕ → ℕ → ℕ → ℕ → ℕ → Image
+imageFor bytes words owners jumpers writers =
+    cond (eqb owners words && eqb jumpers words && eqb writers words) (imageOf words bytes) (refused answer.lengths-differ)
+
+module _ (bytes : List ℕ) (words owners jumpers writers : ℕ) (same : Bool) (e : same ≡ (eqb owners words && eqb jumpers words && eqb writers words)) where
+  pub lengths-differ : not same ≡ true → refused answer.lengths-differ ≡ imageFor bytes words owners jumpers writers
+  unfolding imageFor
+  lengths-differ h = simp (sym e ∙ not-true same h)
+
+  pub lengths-agree : not same ≡ false → (image : Image) → image ≡ imageOf words bytes → image ≡ imageFor bytes words owners jumpers writers
+  unfolding imageFor
+  lengths-agree h image i = i ∙ simp (sym e ∙ not-false same h)
+
+-- what the fills of n places ask
+pub record Ready (bytes words owners jumpers writers : List ℕ) (n : ℕ) : Type 0 where
+  pub in-words : n ≤ length words
+  pub in-owners : n ≤ length owners
+  pub in-jumpers : n ≤ length jumpers
+  pub in-writers : n ≤ length writers
+  pub in-bytes : 4 * n ≤ length bytes - 4
+
+-- the image was read
+module _ (bytes words owners jumpers writers : List ℕ) (image : Image) (i : image ≡ imageFor bytes (length words) (length owners) (length jumpers) (length writers)) where
+  abbrev old : State
+  old = lent words owners jumpers writers
+
+  image-is : image ≡ cond (eqb (loadVerdict bytes old) 0) (record { answer = 0; size = sizeIn bytes; regs = regsOf bytes; entry = entryIn bytes }) (refused (loadVerdict bytes old))
+  unfolding imageFor imageOf loadVerdict sameLengths
+  image-is = i ∙ go (sameLengths old) refl
+    where
+      go : (t : Bool) → sameLengths old ≡ t
+          → imageFor bytes (length words) (length owners) (length jumpers) (length writers)
+          ≡ cond (eqb (loadVerdict bytes old) 0) (record { answer = 0; size = sizeIn bytes; regs = regsOf bytes; entry = entryIn bytes }) (refused (loadVerdict bytes old))
+      go true q = simp q
+      go false q = simp q
+
+  pub ready : Ready bytes words owners jumpers writers (image .size)
+  unfolding load
+  ready = go (eqb (loadVerdict bytes old) 0) refl
+    where
+      go : (t : Bool) → eqb (loadVerdict bytes old) 0 ≡ t → Ready bytes words owners jumpers writers (image .size)
+      go true q =
+          let f = load-accepted bytes old (eqb-true (loadVerdict bytes old) 0 q) in
+          let l = f .image .length-is in
+          let m = f .image .size-lent in
+          let o = f .owners in
+          let j = f .jumpers in
+          let w = f .writers in
+          let s : image .size ≡ sizeIn bytes = ap (λ (x : Image). x .size) image-is ∙ simp q in
+          record { in-words = omega arith; in-owners = omega arith; in-jumpers = omega arith; in-writers = omega arith; in-bytes = omega arith }
+      go false q =
+          let s : image .size ≡ 0 = ap (λ (x : Image). x .size) image-is ∙ simp q in
+          record { in-words = omega arith; in-owners = omega arith; in-jumpers = omega arith; in-writers = omega arith; in-bytes = omega arith }
+
+  pub loads : (words′ owners′ jumpers′ writers′ : List ℕ) (j w : ℕ)
+      → words′ ≡ over (fields bytes 4 (image .size)) words → owners′ ≡ over (replicate (image .size) 0) owners
+      → j ≡ services → jumpers′ ≡ over (replicate (image .size) j) jumpers
+      → w ≡ empty → writers′ ≡ over (replicate (image .size) w) writers
+      → (cpu : Processor) → cpu ≡ fresh (image .size) (image .regs) (image .entry)
+      → record { answer = image .answer; state = record { cpu = cpu; words = words′; owners = owners′; jumpers = jumpers′; writers = writers′ } } ≡ load bytes old
+  unfolding load loaded notLoaded blank fields
+  loads words′ owners′ jumpers′ writers′ j w hw ho ej hj ew hr cpu c = go (eqb (loadVerdict bytes old) 0) refl
+    where
+      go : (t : Bool) → eqb (loadVerdict bytes old) 0 ≡ t
+          → record { answer = image .answer; state = record { cpu = cpu; words = words′; owners = owners′; jumpers = jumpers′; writers = writers′ } } ≡ load bytes old
+      go true q = simp (c, hw, ho, hj, hr, ej, ew, image-is, eqb-true (loadVerdict bytes old) 0 q, length-fields)
+      go false q = simp (c, hw, ho, hj, hr, image-is, q)

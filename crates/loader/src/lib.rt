@@ -1,0 +1,103 @@
+// Loads an image into lent memories.
+mod filling;
+
+ghost use mathlib.Core.Path.{_≡_};
+ghost use mathlib.Core.Bool.{_&&_};
+ghost use lib.Dec.{eqb};
+ghost use Rattle.rules.specs.Images.{load, fresh};
+ghost use Rattle.machine.specs.Views.{cpuOf};
+ghost use Rattle.loader.specs.Loading.{imageFor};
+ghost use Rattle.loader.specs.Promises.{loadedOf, lent};
+use crate::filling::fill_sets;
+use crate::filling::fill_words;
+use compartments::Set;
+use machine::Processor;
+use reader::Image;
+
+// Answer 0 and the processor as after loading, or a refusal and the blank one.
+pub struct Loaded {
+    pub cpu: Processor,
+    pub answer: u32,
+}
+
+// The owner of every word after loading: the main compartment.
+const MAIN: u32 = 0;
+
+// The first unused compartment number after loading.
+const FIRST_NUMBER: u32 = 4;
+
+// The processor as after loading; N = 0 makes the blank one.
+fn fresh(n: u32, regs: [u32; 16], pc: u32) -> Processor
+    ensures { λ r. ⌜ cpuOf r ≡ fresh n regs pc ⌝ }
+{
+    let main = Set::none().insert(MAIN);
+    let jumpers = main.0;
+    let services = [jumpers; 3];
+    Processor {
+        n,
+        regs,
+        pc,
+        prev: MAIN,
+        jumped: false,
+        next: FIRST_NUMBER,
+        services,
+    }
+}
+
+fn same_lengths(words: usize, owners: usize, jumpers: usize, writers: usize) -> bool
+    ensures { λ r. ⌜ r ≡ (eqb owners words && eqb jumpers words && eqb writers words) ⌝ }
+{
+    if owners != words {
+        return false;
+    }
+    if jumpers != words {
+        return false;
+    }
+    writers == words
+}
+
+// What an image says for memories of these lengths; or a refusal and zeros.
+fn image_for(bytes: &[u8], words: usize, owners: usize, jumpers: usize, writers: usize) -> Image
+    ensures { λ r. ⌜ r ≡ imageFor (now (bytes .entry)) words owners jumpers writers ⌝ }
+{
+    if !same_lengths(words, owners, jumpers, writers) {
+        return Image {
+            answer: answers::LENGTHS_DIFFER,
+            size: 0,
+            regs: [0u32; 16],
+            entry: 0,
+        };
+    }
+    reader::read(bytes, words)
+}
+
+// Loads an image into lent memories. All checks come first; a refused image says that it has 0 words, so nothing is filled
+// and the record is the blank one.
+pub fn load(
+    bytes: &[u8],
+    words: &mut [u32],
+    owners: &mut [u32],
+    jumpers: &mut [u64],
+    writers: &mut [u64],
+) -> Loaded
+    ensures { λ r. ⌜ loadedOf r (now (words .exit)) (now (owners .exit)) (now (jumpers .exit)) (now (writers .exit)) ≡ load (now (bytes .entry)) (lent (now (words .entry)) (now (owners .entry)) (now (jumpers .entry)) (now (writers .entry))) ⌝ }
+{
+    let image = image_for(
+        bytes,
+        words.len(),
+        owners.len(),
+        jumpers.len(),
+        writers.len(),
+    );
+    let services = Set::of_services();
+    let none = Set::none();
+    let n = image.size as usize;
+    fill_words(words, owners, bytes, n, MAIN);
+    fill_sets(jumpers, writers, n, services.0, none.0);
+    let regs = image.regs;
+    let cpu = fresh(image.size, regs, image.entry);
+    Loaded {
+        cpu,
+        answer: image.answer,
+    }
+}

@@ -1,0 +1,56 @@
+-- Numbers and sections stored one after the other, as the code stores them.
+use mathlib.Core.Path.{_≡_, refl, sym, ap, _∙_}
+use mathlib.Core.List.{List, [], _∷_, _++_}
+use Prim.Native.Nat.{ℕ, suc, _+_, _*_, _/_, _%_, _<_, _≤_}
+use native.Mathlib.Nat.{add-zero, zero-add}
+use native.Mathlib.Numerals.{add-one}
+use native.Mathlib.Omega.{arith}
+use lib.ListN.{getD, length, set, take, drop}
+use lib.Seq.{sets, sets-eq, take-suc, length-take-le}
+use Rattle.rules.specs.Images.{over, fourBytes, allBytes, section}
+use Rattle.images.specs.Sections.{length-all-bytes, all-bytes-append}
+
+sets-append : (l : List ℕ) (i : ℕ) (vs us : List ℕ) → sets (sets l i vs) (i + length vs) us ≡ sets l i (vs ++ us)
+sets-append l i [] us = rw add-zero
+sets-append l i (v ∷ vs) us =
+    let e : i + suc (length vs) ≡ suc i + length vs = omega arith in rw e (sets-append (set l i v) (suc i) vs us)
+
+-- ..where the place that the first leave is known
+pub sets-then : (l : List ℕ) (i j : ℕ) (vs us : List ℕ) → j ≡ i + length vs → sets (sets l i vs) j us ≡ sets l i (vs ++ us)
+sets-then l i j vs us e = rw e (sets-append l i vs us)
+
+-- stored from the start
+pub sets-over : (vs l : List ℕ) → length vs ≤ length l → sets l 0 vs ≡ over vs l
+sets-over vs l h = let e = zero-add (length vs) in sets-eq vs l 0 (omega arith) ∙ ap (λ (k : ℕ). vs ++ drop k l) e
+
+-- a number
+pub four-stores : (out : List ℕ) (at x : ℕ)
+    → set (set (set (set out at (x % 256)) (at + 1) (x / 256 % 256)) (at + 2) (x / 65536 % 256)) (at + 3) (x / 16777216 % 256) ≡ sets out at (fourBytes x)
+four-stores out at x =
+    let one : at + 1 ≡ suc at = omega arith in
+    let two : at + 2 ≡ suc (suc at) = omega arith in
+    let three : at + 3 ≡ suc (suc (suc at)) = omega arith in
+    simp (one, two, three)
+
+all-bytes-one : (x : ℕ) → allBytes (x ∷ []) ≡ fourBytes x
+unfolding allBytes
+all-bytes-one x = refl
+
+-- the next number joins
+pub stores-more : (xs out : List ℕ) (at i : ℕ) → i < length xs
+    → sets (sets out at (allBytes (take i xs))) (at + 4 * i) (fourBytes (getD xs i 0)) ≡ sets out at (allBytes (take (i + 1) xs))
+stores-more xs out at i h =
+    let l : length (allBytes (take i xs)) ≡ 4 * i = length-all-bytes (take i xs) ∙ ap (λ (k : ℕ). 4 * k) (length-take-le i xs (omega arith)) in
+    let t : take (i + 1) xs ≡ take i xs ++ (getD xs i 0 ∷ []) = ap (λ (k : ℕ). take k xs) (add-one i) ∙ take-suc xs i 0 h in
+    let a : allBytes (take (i + 1) xs) ≡ allBytes (take i xs) ++ fourBytes (getD xs i 0) = ap allBytes t ∙ all-bytes-append (take i xs) (getD xs i 0 ∷ []) ∙ ap (λ (b : List ℕ). allBytes (take i xs) ++ b) (all-bytes-one (getD xs i 0)) in
+    sets-then out at (at + 4 * i) (allBytes (take i xs)) (fourBytes (getD xs i 0)) (omega arith) ∙ ap (sets out at) (sym a)
+
+-- a section is its count and then its numbers, all of which are stored
+pub section-stored : (xs out one end : List ℕ) (at k i : ℕ) → k ≤ length xs → i ≡ k → one ≡ sets out at (fourBytes k) → end ≡ sets one (at + 4) (allBytes (take i xs))
+    → end ≡ sets out at (section (take k xs))
+unfolding section
+section-stored xs out one end at k i h e o n =
+    let l : k ≡ length (take k xs) = sym (length-take-le k xs h) in
+    n ∙ ap (λ (m : List ℕ). sets m (at + 4) (allBytes (take i xs))) o ∙ ap (λ (j : ℕ). sets (sets out at (fourBytes k)) (at + 4) (allBytes (take j xs))) e
+    ∙ ap (λ (j : ℕ). sets (sets out at (fourBytes j)) (at + 4) (allBytes (take k xs))) l
+    ∙ sets-then out at (at + 4) (fourBytes (length (take k xs))) (allBytes (take k xs)) refl
