@@ -188,7 +188,7 @@ impl Processor {
 
     // One step: a run of budget 1.
     pub fn step(
-        self,
+        mut self,
         words: &mut [u32],
         owners: &mut [u32],
         jumpers: &mut [u64],
@@ -197,9 +197,9 @@ impl Processor {
         ensures { λ r. ⌜ steppedOf r (now (words .exit)) (now (owners .exit)) (now (jumpers .exit)) (now (writers .exit)) ≡ step (stateOf self (now (words .entry)) (now (owners .entry)) (now (jumpers .entry)) (now (writers .entry))) ⌝ }
     {
         let r = self.run(words, owners, jumpers, writers, 1);
-        let cpu = r.cpu;
+        self = r.cpu;
         Stepped {
-            cpu,
+            cpu: self,
             answer: r.answer,
         }
     }
