@@ -1,12 +1,17 @@
--- "Two outcomes allowed by one promise are proved equal", of the calls that are public for another crate alone: sets read, what the caller reaches, tags written, check 14, a step at a service.
+-- "Two outcomes allowed by one promise are proved equal", of the calls that are public for another crate alone: numbers made, who may run, arrive and store, sets read, what the caller reaches, tags written, check 14, a step at a service.
 use mathlib.Core.Path.{_≡_}
 use mathlib.Core.Bool.{Bool, _&&_}
 use mathlib.Core.List.{List, []}
 use Prim.Native.Nat.{ℕ, _+_, min}
 use Rattle.common.specs.AddressSets.{setAt, goodSet, inSet}
+use Rattle.rules.specs.Compartments.{member}
 use Rattle.rules.specs.State.{State, owns}
 use Rattle.rules.specs.Checks.{setsWithin, returns}
 use Rattle.rules.specs.Step.{owned, joined, joinedServices, joinAt}
+use Rattle.arithmetic.specs.Picked.{picked, branchTarget}
+use Rattle.arithmetic.specs.Promises as arithmetic
+use Rattle.rights.specs.Rights.{free, mayStoreAt}
+use Rattle.rights.specs.Promises as rights
 use Rattle.address_sets.specs.declared.Pair.{Pair}
 use Rattle.address_sets.specs.SetLaws.{pairOf, pairAt}
 use Rattle.address_sets.specs.Promises as sets
@@ -20,6 +25,23 @@ use Rattle.form.specs.Form as form
 use Rattle.service.specs.declared.Served.{Served}
 use Rattle.service.specs.Served.{servedOf, serving}
 use Rattle.service.specs.Promises as service
+
+-- arithmetic: arith, branch_target
+pub arith-once : (op x y r q : ℕ) → r ≡ picked op x y → q ≡ picked op x y → r ≡ q
+arith-once = arithmetic.arith-once
+
+pub branch-target-once : (pc low r q : ℕ) → r ≡ branchTarget pc low → q ≡ branchTarget pc low → r ≡ q
+branch-target-once = arithmetic.branch-target-once
+
+-- rights: is_free, jumped_in, may_store
+pub is-free-once : (owner next : ℕ) (r q : Bool) → r ≡ free owner next → q ≡ free owner next → r ≡ q
+is-free-once = rights.is-free-once
+
+pub jumped-in-once : (prev : ℕ) (jumped : Bool) (jumpers : ℕ) (r q : Bool) → r ≡ (jumped && member jumpers prev) → q ≡ (jumped && member jumpers prev) → r ≡ q
+jumped-in-once = rights.jumped-in-once
+
+pub may-store-once : (owner target writers : ℕ) (r q : Bool) → r ≡ mayStoreAt owner target writers → q ≡ mayStoreAt owner target writers → r ≡ q
+may-store-once = rights.may-store-once
 
 -- address_sets: pair_at, all_good, has, clipped
 pub pair-at-once : (words : List ℕ) (q j : ℕ) (r p : Pair) → pairOf r ≡ pairAt words (q + 1) j → pairOf p ≡ pairAt words (q + 1) j → r ≡ p

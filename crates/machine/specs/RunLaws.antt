@@ -20,7 +20,8 @@ use Rattle.rules.specs.Rest.{step-keeps-rest}
 use Rattle.rules.specs.Formed.{step-formed}
 use Rattle.rules.specs.FormLaws.{n-most}
 use Rattle.moves.specs.declared.Move.{Move}
-use Rattle.moves.specs.Moves.{free, moveFrom, settled-move}
+use Rattle.rights.specs.Rights.{free}
+use Rattle.moves.specs.Moves.{moveFrom, settled-move}
 use Rattle.memory.specs.Places.{putReg, putWord}
 use Rattle.moves.specs.Applied.{moveAt, move-stops, move-runs, move-free}
 use Rattle.service.specs.Served.{Serving, serving}

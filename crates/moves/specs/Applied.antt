@@ -18,8 +18,9 @@ use Rattle.rules.specs.State.{State, inMemory, hasOwner, ownerAt, jumpersAt, wr
 use Rattle.rules.specs.Checks.{formed, badOwner, arrives, instructionAt, storeVerdict, instructionVerdict, wordVerdict, verdict}
 use Rattle.rules.specs.Step.{ranInstruction, commit, step}
 use Rattle.memory.specs.Places.{putReg, putWord}
+use Rattle.rights.specs.Rights.{free, mayStoreAt}
 use Rattle.moves.specs.declared.Move.{Move}
-use Rattle.moves.specs.Moves.{no-register, nowhere, free, arrivesAt, mayStoreAt, loadMove, storeMove, bnzMove, instructionMove, wordMove, moveOf}
+use Rattle.moves.specs.Moves.{no-register, nowhere, arrivesAt, loadMove, storeMove, bnzMove, instructionMove, wordMove, moveOf}
 
 abbrev pub applied : State → Move → State
 applied s m =

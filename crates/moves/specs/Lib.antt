@@ -1,6 +1,5 @@
 -- ---- what an instruction moves, its laws and the promise
 pub mod Moves
-pub mod LeafLaws
 pub mod MoveLaws
 pub mod Applied
 pub mod Promises

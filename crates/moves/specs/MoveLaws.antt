@@ -12,8 +12,10 @@ use Rattle.common.specs.Answers as answer
 use Rattle.common.specs.Tests.{NoneOf, past}
 use Rattle.common.specs.Words.{Decoded, none as no-word, decode, opOf, aOf, bOf, lowOf}
 use Rattle.common.specs.WordLaws.{rd-small as register}
-use Rattle.common.specs.Instructions.{plus, arithmetic}
+use Rattle.common.specs.Instructions.{plus}
 use Rattle.rules.specs.Compartments.{member}
+use Rattle.rights.specs.Rights.{free}
+use Rattle.arithmetic.specs.Picked.{picked, is-arithmetic}
 use Rattle.instructions.specs.declared.Decoded.{Decoded as Fields}
 use Rattle.instructions.specs.Masks.{fitsIn, fieldsOf, decode-fields, decode-none, decode-high}
 use Rattle.instructions.specs.Promises.{decoded}
@@ -71,14 +73,14 @@ module _ (i : Decoded) (regs : List ℕ) (pc owner n : ℕ) (words owners writer
   halt h e = simp (h, e)
 
   -- the five arithmetic ones
-  pub five : 3 ≤ i .op → i .op < 8 → i .low < 16 → (on : ℕ) → On on → (x : ℕ) → X x → (y : ℕ) → Y y → (v : ℕ) → v ≡ arithmetic (i .op) x y
+  pub five : 3 ≤ i .op → i .op < 8 → i .low < 16 → (on : ℕ) → On on → (x : ℕ) → X x → (y : ℕ) → Y y → (v : ℕ) → v ≡ picked (i .op) x y
       → m ≡ is.puts owner on (i .low % 16) v → Is
   unfolding is.instructionMove
   five h k l on eo x ex y ey v ev e =
       let r : i .low % 16 ≡ i .low = omega arith in
       let a : i .op ≢ 1 = λ z. omega arith in
       let b : i .op ≢ 2 = λ z. omega arith in
-      simp (ne-eqb (i .op) 1 a, ne-eqb (i .op) 2 b, le-leb 3 (i .op) h, le-leb (i .op) 7 (omega arith), e, ev, eo, ex, ey, r)
+      simp (ne-eqb (i .op) 1 a, ne-eqb (i .op) 2 b, le-leb 3 (i .op) h, le-leb (i .op) 7 (omega arith), e, ev ∙ is-arithmetic (i .op) x y h, eo, ex, ey, r)
 
 -- an opcode that is none of those that have an arm
 no-arm : (o : ℕ) → (3 ≤ o → o < 8 → ⊥) → NoneOf 3 o → o ≢ 8 → o ≢ 9 → o ≢ 10 → o ≢ 11 → o ≢ 12 → o ≢ 13 → 14 ≤ o
@@ -169,7 +171,7 @@ module _ (settled : Bool) (regs : List ℕ) (pc prev : ℕ) (jumped : Bool) (nex
   unfolding is.moveFrom
   at-home h = simp (← eo, ← eh, not-false home h)
 
-  module _ (h : not home ≡ true) (f : Bool) (ef : f ≡ is.free owner next) where
+  module _ (h : not home ≡ true) (f : Bool) (ef : f ≡ free owner next) where
     pub not-free : not f ≡ true → (m : Move) → m ≡ is.stop answer.bad-owner owner → Decides m
     unfolding is.moveOf
     not-free hf m e = simp (away h, ← eo, ← ef, not-true f hf, e)

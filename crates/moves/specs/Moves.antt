@@ -1,6 +1,6 @@
 -- Moves: what the instruction at pc will write, case by case in the code's order.
 use mathlib.Core.Path.{_≡_, refl, ap, _∙_}
-use mathlib.Core.Bool.{Bool, true, false, cond, _&&_, _||_, not}
+use mathlib.Core.Bool.{Bool, true, false, cond, _&&_, _||_}
 use mathlib.Core.List.{List}
 use Prim.Native.Nat.{ℕ}
 use borrow.Author.Tests.{eqb-true}
@@ -10,8 +10,8 @@ use Rattle.common.specs.Answers as answer
 use Rattle.common.specs.Opcodes as is
 use Rattle.common.specs.Words.{Decoded, decode}
 use Rattle.common.specs.Instructions.{reg, plus, arithmetic, branch}
-use Rattle.common.specs.Services.{isServiceNumber}
 use Rattle.rules.specs.Compartments.{member}
+use Rattle.rights.specs.Rights.{free, mayStoreAt}
 use Rattle.moves.specs.declared.Move.{Move}
 
 -- no register, and no place
@@ -40,16 +40,10 @@ abbrev pub leaps : ℕ → ℕ → ℕ → ℕ → Move
 leaps owner pc rd value =
     record { answer = answer.done; rd = rd; value = value; place = nowhere; word = 0; pc = pc; owner = owner; jumped = true }
 
--- ---- the tests at a word
-
-unfoldable pub free : ℕ → ℕ → Bool
-free owner next = not (isServiceNumber owner || leb next owner)
+-- ---- arrival at a word
 
 unfoldable pub arrivesAt : ℕ → ℕ → Bool → ℕ → Bool
 arrivesAt owner prev jumped jumpers = eqb owner prev || (jumped && member jumpers prev)
-
-unfoldable pub mayStoreAt : ℕ → ℕ → ℕ → Bool
-mayStoreAt owner target writers = eqb target owner || member writers owner
 
 -- ---- the move of an instruction of an owner at pc
 

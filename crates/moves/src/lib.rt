@@ -1,13 +1,12 @@
 // What the instruction at pc will write, decided by reading alone.
 ghost use mathlib.Core.Path.{_≡_};
-ghost use mathlib.Core.Bool.{_&&_, cond};
+ghost use mathlib.Core.Bool.{_&&_};
 ghost use Prim.Native.Nat.{_<_, _≤_};
 ghost use lib.Dec.{eqb};
 ghost use lib.ListN.{getD};
 ghost use Rattle.common.specs.Answers as answer;
 ghost use Rattle.common.specs.Words.{opOf, decode};
-ghost use Rattle.common.specs.Instructions.{plus, arithmetic, branch};
-ghost use Rattle.rules.specs.Compartments.{member};
+ghost use Rattle.common.specs.Instructions.{plus};
 ghost use Rattle.moves.specs.Moves as is;
 
 // A register to write (16: none) and its value; a place to store to (4294967295: none) and its word; then pc, the owner and the flag.
@@ -102,70 +101,6 @@ fn reg(regs: &[u32; 16], i: u32) -> u32
     regs[j]
 }
 
-// One of two numbers, without a jump.
-fn pick(t: bool, x: u32, y: u32) -> u32
-    ensures { λ r. ⌜ r ≡ cond t x y ⌝ }
-{
-    if t { x } else { y }
-}
-
-// Add, Sub, Mul, Eq and Leq: opcodes 3 to 7. All five are made and one is picked: that is cheaper than jumping to it.
-fn arith(op: u32, x: u32, y: u32) -> u32
-    requires { ⌜ 3 ≤ op ⌝ }
-    ensures { λ r. ⌜ r ≡ arithmetic op x y ⌝ }
-{
-    let sum = std::num::wrapping_add_u32(x, y);
-    let difference = std::num::wrapping_sub_u32(x, y);
-    let product = ((x as u64) * (y as u64) % 4294967296) as u32;
-    let equal = pick(x == y, 1, 0);
-    let ordered = pick(x <= y, 1, 0);
-    let moved = pick(op < 4, sum, difference);
-    let compared = pick(op < 7, equal, ordered);
-    pick(op < 5, moved, pick(op < 6, product, compared))
-}
-
-// pc and an offset of 16 bits in two's complement.
-fn branch_target(pc: u32, low: u32) -> u32
-    requires { ⌜ low < 65536 ⌝ }
-    ensures { λ r. ⌜ r ≡ branch pc low ⌝ }
-{
-    let back = pick(low < 32768, 0, 65536);
-    std::num::wrapping_sub_u32(std::num::wrapping_add_u32(pc, low), back)
-}
-
-// 15: whether an owner is 0, or from 4 to below next.
-fn is_free(owner: u32, next: u32) -> bool
-    ensures { λ r. ⌜ r ≡ is.free owner next ⌝ }
-{
-    if next <= owner {
-        return false;
-    }
-    if owner == 0 {
-        return true;
-    }
-    owner >= 4
-}
-
-// 4, where the owner is another: whether the flag is jumped and prev among the jumpers.
-fn jumped_in(prev: u32, jumped: bool, jumpers: u64) -> bool
-    ensures { λ r. ⌜ r ≡ (jumped && member jumpers prev) ⌝ }
-{
-    if !jumped {
-        return false;
-    }
-    compartments::Set(jumpers).contains(prev)
-}
-
-// 7: whether a compartment owns the target or is among its writers.
-fn may_store(owner: u32, target: u32, writers: u64) -> bool
-    ensures { λ r. ⌜ r ≡ is.mayStoreAt owner target writers ⌝ }
-{
-    if target == owner {
-        return true;
-    }
-    compartments::Set(writers).contains(owner)
-}
-
 fn load_move(owner: u32, on: u32, rd: u32, x: u32, n: u32, words: &[u32]) -> Move
     ensures { λ r. ⌜ r ≡ is.loadMove owner on rd x n (now (words .entry)) ⌝ }
 {
@@ -181,7 +116,7 @@ fn store_move(owner: u32, on: u32, x: u32, y: u32, n: u32, owners: &[u32], write
     if n <= x {
         return stop(answers::STORE_OUTSIDE, owner);
     }
-    if !may_store(
+    if !rights::may_store(
         owner,
         memory::word_at(owners, x),
         memory::set_at(writers, x),
@@ -198,7 +133,7 @@ fn bnz_move(owner: u32, on: u32, pc: u32, low: u32, x: u32) -> Move
     if x == 0 {
         return goes(owner, on);
     }
-    goes(owner, branch_target(pc, low))
+    goes(owner, arithmetic::branch_target(pc, low))
 }
 
 // pc + 1.
@@ -310,7 +245,7 @@ fn execute(
                 owner,
                 after(pc),
                 i.low % 16,
-                arith(op, reg(regs, i.a), reg(regs, i.b)),
+                arithmetic::arith(op, reg(regs, i.a), reg(regs, i.b)),
             )
         } else {
             none(owner)
@@ -348,11 +283,11 @@ pub fn decide(
 {
     let owner = memory::word_at(owners, pc);
     if !is_home(settled, owner, prev) {
-        if !is_free(owner, next) {
+        if !rights::is_free(owner, next) {
             return stop(answers::BAD_OWNER, owner);
         }
         if owner != prev {
-            if !jumped_in(prev, jumped, memory::set_at(jumpers, pc)) {
+            if !rights::jumped_in(prev, jumped, memory::set_at(jumpers, pc)) {
                 return stop(answers::NO_ARRIVAL, owner);
             }
         }

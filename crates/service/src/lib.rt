@@ -1,10 +1,7 @@
 // A step at a service: 2, 4, the service's own checks, then its work on the tags.
 ghost use mathlib.Core.Path.{_≡_};
-ghost use mathlib.Core.Bool.{_&&_};
-ghost use Rattle.rules.specs.Compartments.{member};
 ghost use Rattle.monitor.specs.Outcomes.{called, isolatingOf, addingOf};
 ghost use Rattle.service.specs.Served.{at, servedOf, serving, grown, isolatedBy, addedBy};
-use compartments::Set;
 use monitor::Isolated;
 
 // The answer; and where it is 0, the service's number, the first unused compartment number and the sets I of the three services.
@@ -13,16 +10,6 @@ pub struct Served {
     pub number: u32,
     pub next: u32,
     pub services: [u64; 3],
-}
-
-// 4: the flag is set and the caller is in the service's set. No service calls (14).
-fn arrives(prev: u32, jumped: bool, gate: u64) -> bool
-    ensures { λ r. ⌜ r ≡ (jumped && member gate prev) ⌝ }
-{
-    if !jumped {
-        return false;
-    }
-    Set(gate).contains(prev)
 }
 
 // At 4096.
@@ -40,7 +27,7 @@ fn isolate(
 ) -> Isolated
     ensures { λ r. ⌜ isolatingOf r (now (owners .exit)) (now (jumpers .exit)) (now (writers .exit)) ≡ isolatedBy jumped (called (now (regs .entry)) n prev next services (now (words .entry)) (now (owners .entry)) (now (jumpers .entry)) (now (writers .entry))) ⌝ }
 {
-    if !arrives(prev, jumped, services[0]) {
+    if !rights::jumped_in(prev, jumped, services[0]) {
         return Isolated {
             answer: answers::NO_ARRIVAL,
             services,
@@ -71,7 +58,7 @@ fn add_target(
 ) -> u32
     ensures { λ r. ⌜ addingOf r (now (sets .exit)) ≡ addedBy (now (regs .entry)) n prev jumped gate (now (owners .entry)) (now (sets .entry)) ⌝ }
 {
-    if !arrives(prev, jumped, gate) {
+    if !rights::jumped_in(prev, jumped, gate) {
         return answers::NO_ARRIVAL;
     }
     monitor::add_target(regs, n, prev, owners, sets)

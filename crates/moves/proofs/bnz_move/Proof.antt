@@ -1,5 +1,7 @@
 -- `bnz_move`, case by case.
+use mathlib.Core.Path.{_∙_}
 use borrow.Author.Tests.{eq-eqb, ne-eqb}
+use Rattle.arithmetic.specs.Picked.{is-branch}
 use Rattle.moves.specs.Moves.{bnzMove}
 use borrow.Author.Needs.{needs}
 use Rattle.moves.proofs.bnz_move.Statement.{statement}
@@ -20,7 +22,7 @@ goes-requires-2 c κs = search needs
 
 returns-2 : tie.Need-returns-2
 unfolding bnzMove
-returns-2 c = simp (c .goes2 .ensures, c .before .branch-target .ensures, ne-eqb _ _ (c .before .before .if1 .left))
+returns-2 c = simp (c .goes2 .ensures, c .before .branch-target .ensures ∙ is-branch _ _ (c .before .before .before .pre), ne-eqb _ _ (c .before .before .if1 .left))
 
 pub bnz-move-spec : {M : Type 1} → statement M
 bnz-move-spec =

@@ -1,7 +1,7 @@
 -- `is_free`, case by case.
-use Rattle.moves.specs.LeafLaws.{not-below, main-free, child-free}
-use Rattle.moves.proofs.is_free.Statement.{statement}
-use Rattle.moves.proofs.is_free.Tie as tie
+use Rattle.rights.specs.RightsLaws.{not-below, main-free, child-free}
+use Rattle.rights.proofs.is_free.Statement.{statement}
+use Rattle.rights.proofs.is_free.Tie as tie
 
 returns : tie.Need-returns
 returns c = not-below _ _ (c .if1 .taken)

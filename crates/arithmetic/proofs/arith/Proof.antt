@@ -1,10 +1,10 @@
 -- All five are made, and one is picked.
 use native.Mathlib.Omega.{arith}
-use Rattle.moves.proofs.Product.{product-fits}
-use Rattle.moves.specs.LeafLaws.{is-arithmetic}
+use Rattle.arithmetic.proofs.Product.{product-fits}
+use Rattle.arithmetic.specs.PickedLaws.{is-picked}
 use borrow.Author.Needs.{needs}
-use Rattle.moves.proofs.arith.Statement.{statement}
-use Rattle.moves.proofs.arith.Tie as tie
+use Rattle.arithmetic.proofs.arith.Statement.{statement}
+use Rattle.arithmetic.proofs.arith.Tie as tie
 
 wrapping-add-u32-requires : tie.Need-wrapping-add-u32-requires
 wrapping-add-u32-requires c κs = search needs
@@ -37,7 +37,7 @@ pick-requires-6 : tie.Need-pick-requires-6
 pick-requires-6 c κs = search needs
 
 returns : tie.Need-returns
-returns c = simp (c .pick6 .ensures, c .before .pick5 .ensures, c .before .before .pick4 .ensures, c .before .before .before .pick3 .ensures) (is-arithmetic _ _ _ (c .before .before .before .before .before .before .before .before .pre) (omega arith) (omega arith) _ (c .before .before .before .before .before .before .before .wrapping-add-u32 .ensures) _ (omega arith) (c .before .before .before .before .before .before .wrapping-sub-u32 .ensures) _ (c .before .before .before .before .before .pick .ensures) _ (c .before .before .before .before .pick2 .ensures))
+returns c = simp (c .pick6 .ensures, c .before .pick5 .ensures, c .before .before .pick4 .ensures, c .before .before .before .pick3 .ensures) (is-picked _ _ _ (omega arith) (omega arith) _ (c .before .before .before .before .before .before .before .wrapping-add-u32 .ensures) _ (omega arith) (c .before .before .before .before .before .before .wrapping-sub-u32 .ensures) _ (c .before .before .before .before .before .pick .ensures) _ (c .before .before .before .before .pick2 .ensures))
 
 pub arith-spec : {M : Type 1} → statement M
 arith-spec =

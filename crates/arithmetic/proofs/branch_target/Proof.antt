@@ -1,9 +1,9 @@
 -- `branch_target`: the sum, less 65536 where the offset is negative.
 use native.Mathlib.Omega.{arith}
-use Rattle.moves.specs.LeafLaws.{is-branch}
+use Rattle.arithmetic.specs.PickedLaws.{is-target}
 use borrow.Author.Needs.{needs}
-use Rattle.moves.proofs.branch_target.Statement.{statement}
-use Rattle.moves.proofs.branch_target.Tie as tie
+use Rattle.arithmetic.proofs.branch_target.Statement.{statement}
+use Rattle.arithmetic.proofs.branch_target.Tie as tie
 
 pick-requires : tie.Need-pick-requires
 pick-requires c κs = search needs
@@ -15,7 +15,7 @@ wrapping-sub-u32-requires : tie.Need-wrapping-sub-u32-requires
 wrapping-sub-u32-requires c κs = search needs
 
 returns : tie.Need-returns
-returns c = is-branch _ _ (c .before .before .before .pre) (omega arith) _ (c .before .wrapping-add-u32 .ensures) _ (c .before .before .pick .ensures) _ (omega arith) (c .wrapping-sub-u32 .ensures)
+returns c = is-target _ _ _ (c .before .wrapping-add-u32 .ensures) _ (c .before .before .pick .ensures) _ (omega arith) (c .wrapping-sub-u32 .ensures)
 
 pub branch-target-spec : {M : Type 1} → statement M
 branch-target-spec =

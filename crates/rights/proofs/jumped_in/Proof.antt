@@ -1,8 +1,8 @@
 -- `jumped_in`, case by case.
 use borrow.Author.Tests.{not-true, not-false}
 use borrow.Author.Needs.{needs}
-use Rattle.moves.proofs.jumped_in.Statement.{statement}
-use Rattle.moves.proofs.jumped_in.Tie as tie
+use Rattle.rights.proofs.jumped_in.Statement.{statement}
+use Rattle.rights.proofs.jumped_in.Tie as tie
 
 returns : tie.Need-returns
 returns c = simp (not-true (c .before .args .jumped) (c .if1 .taken))

@@ -1,9 +1,9 @@
 -- `may_store`, case by case.
 use borrow.Author.Tests.{eq-eqb, ne-eqb}
-use Rattle.moves.specs.Moves.{mayStoreAt}
+use Rattle.rights.specs.Rights.{mayStoreAt}
 use borrow.Author.Needs.{needs}
-use Rattle.moves.proofs.may_store.Statement.{statement}
-use Rattle.moves.proofs.may_store.Tie as tie
+use Rattle.rights.proofs.may_store.Statement.{statement}
+use Rattle.rights.proofs.may_store.Tie as tie
 
 returns : tie.Need-returns
 unfolding mayStoreAt

@@ -1,0 +1,4 @@
+-- ---- who may run and store, the laws and the promises
+pub mod Rights
+pub mod RightsLaws
+pub mod Promises
