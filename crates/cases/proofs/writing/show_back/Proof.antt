@@ -1,0 +1,68 @@
+-- A front of a list has the length asked.
+use borrow.Author.Needs.{needs}
+use lib.ListN.{length-take}
+use native.Mathlib.Omega.{arith}
+use borrow.Author.Needs.{needs}
+use Rattle.cases.proofs.writing.show_back.Statement.{statement}
+use Rattle.cases.proofs.writing.show_back.Tie as tie
+
+write-requires : tie.Need-write-requires
+write-requires c κs = search needs
+
+cast-values : tie.Need-cast-values
+cast-values c = search needs
+
+array-write-values : tie.Need-array-write-values
+array-write-values c = search needs
+
+array-write-values-2 : tie.Need-array-write-values-2
+array-write-values-2 c = search needs
+
+sum-of-bytes-requires : tie.Need-sum-of-bytes-requires
+sum-of-bytes-requires c κs = search needs
+
+array-write-values-3 : tie.Need-array-write-values-3
+array-write-values-3 c = search needs
+
+slice-aggregate-show : tie.Need-slice-aggregate-show
+slice-aggregate-show c = search needs
+
+show-requires : tie.Need-show-requires
+show-requires c κs = search needs
+
+within-requires : tie.Need-within-requires
+within-requires c κs = search needs
+
+slice-reshare-prefix-show-loaded : tie.Need-slice-reshare-prefix-show-loaded
+slice-reshare-prefix-show-loaded c = search needs
+
+slice-aggregate-show-loaded : tie.Need-slice-aggregate-show-loaded
+slice-aggregate-show-loaded c = simp length-take (omega arith)
+
+show-loaded-requires : tie.Need-show-loaded-requires
+show-loaded-requires c κs = search needs
+
+same-length : tie.Need-same-length
+same-length c = search needs
+
+returns : tie.Need-returns
+returns c = search needs
+
+pub show-back-spec : {M : Type 1} → statement M
+show-back-spec =
+    tie.close
+    (tie.spec
+    write-requires
+    cast-values
+    array-write-values
+    array-write-values-2
+    sum-of-bytes-requires
+    array-write-values-3
+    slice-aggregate-show
+    show-requires
+    within-requires
+    slice-reshare-prefix-show-loaded
+    slice-aggregate-show-loaded
+    show-loaded-requires
+    same-length
+    returns)

@@ -1,0 +1,48 @@
+-- A front of a list has the length asked.
+use borrow.Author.Needs.{needs}
+use lib.ListN.{length-take}
+use native.Mathlib.Omega.{arith}
+use borrow.Author.Needs.{needs}
+use Rattle.cases.proofs.writing.show_write.Statement.{statement}
+use Rattle.cases.proofs.writing.show_write.Tie as tie
+
+slice-aggregate-fill-words : tie.Need-slice-aggregate-fill-words
+slice-aggregate-fill-words c = search needs
+
+fill-words-requires : tie.Need-fill-words-requires
+fill-words-requires c κs = search needs
+
+sixteen-requires : tie.Need-sixteen-requires
+sixteen-requires c κs = search needs
+
+array-share-prefix-words : tie.Need-array-share-prefix-words
+array-share-prefix-words c = search needs
+
+slice-aggregate-show-back : tie.Need-slice-aggregate-show-back
+slice-aggregate-show-back c = simp length-take (omega arith)
+
+array-borrow-prefix-out : tie.Need-array-borrow-prefix-out
+array-borrow-prefix-out c = search needs
+
+slice-aggregate-show-back-2 : tie.Need-slice-aggregate-show-back-2
+slice-aggregate-show-back-2 c = simp length-take (omega arith)
+
+show-back-requires : tie.Need-show-back-requires
+show-back-requires c κs = search needs
+
+returns : tie.Need-returns
+returns c = search needs
+
+pub show-write-spec : {M : Type 1} → statement M
+show-write-spec =
+    tie.close
+    (tie.spec
+    slice-aggregate-fill-words
+    fill-words-requires
+    sixteen-requires
+    array-share-prefix-words
+    slice-aggregate-show-back
+    array-borrow-prefix-out
+    slice-aggregate-show-back-2
+    show-back-requires
+    returns)

@@ -1,0 +1,80 @@
+// Bytes, numbers and marks of a text. What is asked past its end is 0.
+ghost use Prim.Native.Nat.{_≤_, _<_};
+
+// No more than `most`.
+pub(crate) fn within(n: usize, most: usize) -> usize
+    ensures { λ r. ⌜ r ≤ most ⌝ }
+{
+    if n < most { n } else { most }
+}
+
+pub(crate) fn byte_at(text: &[u8], i: usize) -> u8 {
+    if i < text.len() { text[i] } else { 0 }
+}
+
+// A hexadecimal digit's value, or 16.
+pub(crate) fn digit(b: u8) -> u64
+    ensures { λ r. ⌜ r ≤ 16 ⌝ }
+{
+    if b < 48 {
+        return 16;
+    }
+    if b < 58 {
+        return (b - 48) as u64;
+    }
+    if b < 65 {
+        return 16;
+    }
+    if b < 71 {
+        return (b - 55) as u64;
+    }
+    16
+}
+
+// The place after the first `mark` from `at` on, or the text's end.
+pub(crate) fn past(text: &[u8], at: usize, mark: u8) -> usize {
+    let mut i = at;
+    while i < text.len() {
+        let b = text[i];
+        i += 1;
+        if b == mark {
+            return i;
+        }
+    }
+    i
+}
+
+pub(crate) struct Number {
+    pub value: u64,
+    // the place after the byte that ended it
+    pub next: usize,
+}
+
+// A decimal number below 2^32.
+fn read_number(text: &[u8], at: usize) -> Number {
+    let mut value: u64 = 0;
+    let mut i = at;
+    while i < text.len() {
+        let d = digit(text[i]);
+        i += 1;
+        if d > 9 {
+            return Number { value, next: i };
+        }
+        value = value % 4294967296 * 10 + d;
+    }
+    Number { value, next: i }
+}
+
+// The next five numbers. A line that has fewer leaves the rest without meaning.
+pub(crate) fn numbers(text: &[u8], at: usize) -> [u64; 5] {
+    let mut values = [0u64; 5];
+    let mut place = at;
+    let mut k = 0;
+    while k < 5 {
+        let n = read_number(text, place);
+        values[k] = n.value;
+        place = n.next;
+        k += 1;
+    }
+    values
+}
