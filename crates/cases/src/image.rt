@@ -82,8 +82,8 @@ fn bytes_given(text: &[u8], star: usize, size: usize) -> usize
     if reading::byte_at(text, star) != 42 {
         return size;
     }
-    let values = reading::numbers(text, star + 1);
-    let times = reading::within((values[0] % 4294967296) as usize, 2050);
+    let n = reading::read_numbers(text, star + 1);
+    let times = reading::within(n.first, 2050);
     if size == 8 {
         return 8 * times;
     }

@@ -4,6 +4,7 @@ use crate::image;
 use crate::image::Image;
 use crate::loading;
 use crate::reading;
+use crate::reading::Numbers;
 use crate::running;
 use crate::showing;
 use crate::writing;
@@ -17,40 +18,68 @@ fn show_image(text: &[u8], at: usize, bytes: &[u8]) {
 }
 
 // Shows a name; returns the numbers after it.
-fn named(text: &[u8], at: usize) -> [u64; 5] {
+fn named(text: &[u8], at: usize) -> Numbers {
     let after = showing::name(text, at, 32);
-    reading::numbers(text, after)
+    reading::read_numbers(text, after)
 }
 
 // The cases that read the image.
-fn show_case(kind: u8, bytes: &[u8], values: [u64; 5]) {
+fn show_case(kind: u8, text: &[u8], at: usize, bytes: &[u8]) {
     match kind {
         // cut NAME
-        b'c' => damage::show_cuts(bytes),
+        b'c' => {
+            named(text, at);
+            damage::show_cuts(bytes)
+        }
+        b'i' => show_image(text, at, bytes),
         // load NAME WORDS OWNERS JUMPERS WRITERS
-        b'l' => loading::show_loaded(bytes, values),
+        b'l' => loading::show_loaded(bytes, named(text, at)),
         // run NAME NEXT BUDGET
-        b'r' => running::show_ran(bytes, values),
+        b'r' => running::show_ran(bytes, named(text, at)),
         // trip NAME
-        b't' => writing::show_rewritten(bytes),
+        b't' => {
+            named(text, at);
+            writing::show_rewritten(bytes)
+        }
         // write NAME WORDS ENTRY ROOM
-        b'w' => writing::show_written(bytes, values),
+        b'w' => writing::show_written(bytes, named(text, at)),
         _ => (),
     }
 }
 
-// Which image a line that shows nothing leaves.
-fn edited(kind: u8, bytes: &mut [u8], i: Image, value: usize) -> Image {
-    match kind {
-        // at WORD
-        b'a' => image::reaching(i.length, 4 + 4 * (value % 4096)),
-        // fill WORDS
-        b'f' => image::fill(bytes, i, value),
-        // keep BYTES
-        b'k' => image::reaching(value, value),
-        // new
-        _ => image::reaching(0, 0),
+// vary NAME BY
+fn vary(text: &[u8], at: usize, bytes: &mut [u8], i: Image) -> Image {
+    let n = named(text, at);
+    let length = reading::within(i.length, bytes.len());
+    damage::show_changes(&mut bytes[..length], n.first);
+    i
+}
+
+// at WORD, keep BYTES, new
+fn moved(kind: u8, i: Image, value: usize) -> Image {
+    if kind == b'a' {
+        return image::reaching(i.length, 4 + 4 * (value % 4096));
     }
+    if kind == b'k' {
+        return image::reaching(value, value);
+    }
+    if kind == b'n' {
+        return image::reaching(0, 0);
+    }
+    i
+}
+
+// The lines that write to the image, or say where it ends.
+fn edited(kind: u8, text: &[u8], at: usize, bytes: &mut [u8], i: Image) -> Image {
+    if kind == b'v' {
+        return vary(text, at, bytes, i);
+    }
+    let n = reading::read_numbers(text, at);
+    // fill WORDS
+    if kind == b'f' {
+        return image::fill(bytes, i, n.first);
+    }
+    moved(kind, i, n.first)
 }
 
 fn run_line(text: &[u8], at: usize, bytes: &mut [u8], i: Image) -> Image {
@@ -60,22 +89,8 @@ fn run_line(text: &[u8], at: usize, bytes: &mut [u8], i: Image) -> Image {
     }
     let after = reading::past(text, at, 32);
     let length = reading::within(i.length, bytes.len());
-    if kind == b'i' {
-        show_image(text, after, &bytes[..length]);
-        return i;
-    }
-    if kind == b'a' || kind == b'f' || kind == b'k' || kind == b'n' {
-        let values = reading::numbers(text, after);
-        return edited(kind, bytes, i, (values[0] % 4294967296) as usize);
-    }
-    let values = named(text, after);
-    // vary NAME BY
-    if kind == b'v' {
-        damage::show_changes(&mut bytes[..length], values[0]);
-        return i;
-    }
-    show_case(kind, &bytes[..length], values);
-    i
+    show_case(kind, text, after, &bytes[..length]);
+    edited(kind, text, after, bytes, i)
 }
 
 pub(crate) fn run_lines(text: &[u8]) {

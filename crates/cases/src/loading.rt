@@ -1,6 +1,6 @@
 // A load, over memories that hold marks: all that it hands back and leaves.
-ghost use Prim.Native.Nat.{_≤_};
 use crate::reading;
+use crate::reading::Numbers;
 use crate::showing;
 use crate::showing::sum_of_sets;
 use crate::showing::sum_of_words;
@@ -43,9 +43,12 @@ fn loaded(
     row(r.cpu, r.answer, held)
 }
 
-fn loaded_over_marks(bytes: &[u8], w: usize, o: usize, j: usize, v: usize) -> [u64; 12]
-    requires { ⌜ (w ≤ 2050) × (o ≤ 2050) × (j ≤ 2050) × (v ≤ 2050) ⌝ }
-{
+// Memories of four lengths: words, owners, jumpers, writers.
+pub(crate) fn loaded_over_marks(bytes: &[u8], lengths: Numbers) -> [u64; 12] {
+    let w = reading::within(lengths.first, 2050);
+    let o = reading::within(lengths.second, 2050);
+    let j = reading::within(lengths.third, 2050);
+    let v = reading::within(lengths.fourth, 2050);
     let mut words = [11u32; 2050];
     let mut owners = [22u32; 2050];
     let mut jumpers = [33u64; 2050];
@@ -59,20 +62,19 @@ fn loaded_over_marks(bytes: &[u8], w: usize, o: usize, j: usize, v: usize) -> [u
     )
 }
 
-fn place_count(value: u64) -> usize
-    ensures { λ r. ⌜ r ≤ 2050 ⌝ }
-{
-    reading::within((value % 4294967296) as usize, 2050)
+// As many places in each memory.
+pub(crate) fn equal(places: usize) -> Numbers {
+    Numbers {
+        first: places,
+        second: places,
+        third: places,
+        fourth: places,
+    }
 }
 
-// Memories of four lengths: words, owners, jumpers, writers.
-pub(crate) fn show_loaded(bytes: &[u8], lengths: [u64; 5]) {
-    let w = place_count(lengths[0]);
-    let o = place_count(lengths[1]);
-    let j = place_count(lengths[2]);
-    let v = place_count(lengths[3]);
+pub(crate) fn show_loaded(bytes: &[u8], lengths: Numbers) {
     showing::show(
         b" answer # n # regs # pc # prev # jumped # next # services # words # owners # jumpers # writers #\n",
-        loaded_over_marks(bytes, w, o, j, v),
+        loaded_over_marks(bytes, lengths),
     );
 }

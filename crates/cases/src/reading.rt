@@ -44,10 +44,10 @@ pub(crate) fn past(text: &[u8], at: usize, mark: u8) -> usize {
     i
 }
 
-pub(crate) struct Number {
-    pub value: u64,
+struct Number {
+    value: usize,
     // the place after the byte that ended it
-    pub next: usize,
+    next: usize,
 }
 
 // A decimal number below 2^32.
@@ -58,23 +58,33 @@ fn read_number(text: &[u8], at: usize) -> Number {
         let d = digit(text[i]);
         i += 1;
         if d > 9 {
-            return Number { value, next: i };
+            break;
         }
         value = value % 4294967296 * 10 + d;
     }
-    Number { value, next: i }
+    Number {
+        value: (value % 4294967296) as usize,
+        next: i,
+    }
 }
 
-// The next five numbers. A line that has fewer leaves the rest without meaning.
-pub(crate) fn numbers(text: &[u8], at: usize) -> [u64; 5] {
-    let mut values = [0u64; 5];
-    let mut place = at;
-    let mut k = 0;
-    while k < 5 {
-        let n = read_number(text, place);
-        values[k] = n.value;
-        place = n.next;
-        k += 1;
+// Four numbers of a line. One that has fewer leaves the rest without meaning.
+pub(crate) struct Numbers {
+    pub first: usize,
+    pub second: usize,
+    pub third: usize,
+    pub fourth: usize,
+}
+
+pub(crate) fn read_numbers(text: &[u8], at: usize) -> Numbers {
+    let one = read_number(text, at);
+    let two = read_number(text, one.next);
+    let three = read_number(text, two.next);
+    let four = read_number(text, three.next);
+    Numbers {
+        first: one.value,
+        second: two.value,
+        third: three.value,
+        fourth: four.value,
     }
-    values
 }

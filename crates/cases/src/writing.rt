@@ -1,9 +1,10 @@
 // The writer's cases: what it writes is loaded, and what was loaded is written again.
-ghost use Prim.Native.Nat.{_≤_};
 use crate::image;
 use crate::loading;
 use crate::reading;
+use crate::reading::Numbers;
 use crate::showing;
+use writer::Written;
 
 // Whether two lists of bytes are equal.
 fn same(one: &[u8], other: &[u8]) -> bool {
@@ -32,17 +33,33 @@ fn untouched(bytes: &[u8]) -> bool {
     true
 }
 
+fn row(w: Written, third: u64, fourth: u64) -> [u64; 12] {
+    [
+        w.answer as u64,
+        w.length as u64,
+        third,
+        fourth,
+        0,
+        0,
+        0,
+        0,
+        0,
+        0,
+        0,
+        0,
+    ]
+}
+
 // Writes words, and compares: the same bytes as these, and the room beyond them as it was.
 fn rewritten(bytes: &[u8], words: &[u32], regs: &[u32; 16], entry: u32) -> [u64; 12] {
     let mut out = [170u8; 8280];
     let w = writer::write(words, regs, entry, &mut out);
     let length = reading::within(w.length, 8280);
-    let mut values = [0u64; 12];
-    values[0] = w.answer as u64;
-    values[1] = w.length as u64;
-    values[2] = same(bytes, &out[..length]) as u64;
-    values[3] = untouched(&out[length..]) as u64;
-    values
+    row(
+        w,
+        same(bytes, &out[..length]) as u64,
+        untouched(&out[length..]) as u64,
+    )
 }
 
 // Load, then write.
@@ -73,28 +90,22 @@ fn fill_words(words: &mut [u32]) {
 // Write, then load into memories of as many places.
 fn show_back(words: &[u32], regs: &[u32; 16], entry: u32, out: &mut [u8]) {
     let w = writer::write(words, regs, entry, out);
-    let mut values = [0u64; 12];
-    values[0] = w.answer as u64;
-    values[1] = w.length as u64;
-    values[2] = showing::sum_of_bytes(out);
-    showing::show(b" answer # length # out #\nback", values);
+    showing::show(
+        b" answer # length # out #\nback",
+        row(w, showing::sum_of_bytes(out), 0),
+    );
     let length = reading::within(w.length, out.len());
-    loading::show_loaded(&out[..length], [words.len() as u64; 5]);
-}
-
-fn show_write(bytes: &[u8], n: usize, entry: u32, room: usize)
-    requires { ⌜ (n ≤ 2050) × (room ≤ 8280) ⌝ }
-{
-    let mut words = [0u32; 2050];
-    fill_words(&mut words);
-    let regs = image::sixteen(bytes);
-    let mut out = [170u8; 8280];
-    show_back(&words[..n], &regs, entry, &mut out[..room]);
+    loading::show_loaded(&out[..length], loading::equal(words.len()));
 }
 
 // The registers are the bytes' first sixteen words; how many words, the entry and the room are handed in.
-pub(crate) fn show_written(bytes: &[u8], values: [u64; 5]) {
-    let n = reading::within((values[0] % 4294967296) as usize, 2050);
-    let room = reading::within((values[2] % 4294967296) as usize, 8280);
-    show_write(bytes, n, (values[1] % 4294967296) as u32, room);
+pub(crate) fn show_written(bytes: &[u8], given: Numbers) {
+    let n = reading::within(given.first, 2050);
+    let entry = (given.second % 4294967296) as u32;
+    let room = reading::within(given.third, 8280);
+    let regs = image::sixteen(bytes);
+    let mut words = [0u32; 2050];
+    fill_words(&mut words);
+    let mut out = [170u8; 8280];
+    show_back(&words[..n], &regs, entry, &mut out[..room]);
 }

@@ -5,14 +5,13 @@ use mathlib.Core.List.{List, []}
 use mathlib.Core.Logic.{_≢_}
 use Prim.Native.Nat.{ℕ, _+_, _%_, _^_}
 use borrow.Author.Tests.{ne-eqb, not-true, not-false}
-use lib.Dec.{eqb}
 use lib.ListN.{getD}
 use Rattle.common.specs.Answers as answer
 use Rattle.common.specs.Services as service
 use Rattle.rules.specs.Compartments.{member, empty}
 use Rattle.rules.specs.State.{State}
 use Rattle.monitor.specs.Outcomes.{called, Isolating, isolating, Adding, adding}
-use Rattle.service.specs.Served.{isolatedBy, addedBy, grown, callOf, addOf, isolates, adds-jump, adds-store, nowhere, serving}
+use Rattle.service.specs.Served.{isolatedBy, addedBy, grown, callOf, addOf, adds-jump, adds-store, nowhere, serving}
 
 pub not-grown : (a next : ℕ) → a ≢ answer.done → next ≡ grown a next
 unfolding grown

@@ -19,7 +19,7 @@ use Rattle.rules.specs.Checks.{seated, formed, badOwner, arrives, goodSets, set
 use Rattle.rules.specs.Step.{Stepped, owned, joined, joinedServices, joinAt, isolated, jumpAdded, storeAdded, ranService, commit, step}
 use Rattle.rules.specs.FormLaws.{is-formed, is-numbered}
 use Rattle.monitor.specs.Outcomes.{called, isolating, Adding, adding}
-use Rattle.service.specs.Served.{isolatedBy, addedBy, grown, Serving, callOf, addOf, isolates, adds-jump, adds-store, nowhere, serving}
+use Rattle.service.specs.Served.{isolatedBy, addedBy, grown, Serving, callOf, addOf, isolates, adds-jump, adds-store, serving}
 
 -- whether a call arrives: the flag is set, and the caller is in the service's set
 abbrev arrivesBy : Processor → ℕ → Bool

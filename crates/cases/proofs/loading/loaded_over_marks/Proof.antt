@@ -6,6 +6,18 @@ use borrow.Author.Needs.{needs}
 use Rattle.cases.proofs.loading.loaded_over_marks.Statement.{statement}
 use Rattle.cases.proofs.loading.loaded_over_marks.Tie as tie
 
+within-requires : tie.Need-within-requires
+within-requires c κs = search needs
+
+within-requires-2 : tie.Need-within-requires-2
+within-requires-2 c κs = search needs
+
+within-requires-3 : tie.Need-within-requires-3
+within-requires-3 c κs = search needs
+
+within-requires-4 : tie.Need-within-requires-4
+within-requires-4 c κs = search needs
+
 array-borrow-prefix-words : tie.Need-array-borrow-prefix-words
 array-borrow-prefix-words c = search needs
 
@@ -40,6 +52,10 @@ pub loaded-over-marks-spec : {M : Type 1} → statement M
 loaded-over-marks-spec =
     tie.close
     (tie.spec
+    within-requires
+    within-requires-2
+    within-requires-3
+    within-requires-4
     array-borrow-prefix-words
     slice-aggregate-loaded
     array-borrow-prefix-owners

@@ -23,9 +23,6 @@ digit-requires c κs = search needs
 add-i : tie.Need-add-i Inv-loop μ-loop
 add-i c = search needs
 
-returns : tie.Need-returns Inv-loop μ-loop
-returns c = search needs
-
 mul-value : tie.Need-mul-value Inv-loop μ-loop
 mul-value c = search needs
 
@@ -38,8 +35,8 @@ loop-less c = search needs
 loop-again : tie.Need-loop-again Inv-loop μ-loop
 loop-again c = search needs
 
-returns-2 : tie.Need-returns-2 Inv-loop μ-loop
-returns-2 c = search needs
+returns : tie.Need-returns Inv-loop μ-loop
+returns c = search needs
 
 pub read-number-spec : {M : Type 1} → statement M
 read-number-spec =
@@ -51,9 +48,8 @@ read-number-spec =
     shared-slice-read-digit
     digit-requires
     add-i
-    returns
     mul-value
     add-value
     loop-less
     loop-again
-    returns-2)
+    returns)

@@ -15,15 +15,6 @@ write-requires c κs = search needs
 within-requires : tie.Need-within-requires
 within-requires c κs = search needs
 
-cast-values : tie.Need-cast-values
-cast-values c = search needs
-
-array-write-values : tie.Need-array-write-values
-array-write-values c = search needs
-
-array-write-values-2 : tie.Need-array-write-values-2
-array-write-values-2 c = search needs
-
 array-share-prefix-out : tie.Need-array-share-prefix-out
 array-share-prefix-out c = search needs
 
@@ -33,11 +24,8 @@ slice-aggregate-same c = simp length-take (omega arith)
 same-requires : tie.Need-same-requires
 same-requires c κs = search needs
 
-cast-values-2 : tie.Need-cast-values-2
-cast-values-2 c = search needs
-
-array-write-values-3 : tie.Need-array-write-values-3
-array-write-values-3 c = search needs
+cast-row : tie.Need-cast-row
+cast-row c = search needs
 
 sub-untouched : tie.Need-sub-untouched
 sub-untouched c = search needs
@@ -51,11 +39,11 @@ part-untouched-end c = search needs
 untouched-requires : tie.Need-untouched-requires
 untouched-requires c κs = search needs
 
-cast-values-3 : tie.Need-cast-values-3
-cast-values-3 c = search needs
+cast-row-2 : tie.Need-cast-row-2
+cast-row-2 c = search needs
 
-array-write-values-4 : tie.Need-array-write-values-4
-array-write-values-4 c = search needs
+row-requires : tie.Need-row-requires
+row-requires c κs = search needs
 
 returns : tie.Need-returns
 returns c = search needs
@@ -67,18 +55,14 @@ rewritten-spec =
     slice-aggregate-write
     write-requires
     within-requires
-    cast-values
-    array-write-values
-    array-write-values-2
     array-share-prefix-out
     slice-aggregate-same
     same-requires
-    cast-values-2
-    array-write-values-3
+    cast-row
     sub-untouched
     part-untouched-start
     part-untouched-end
     untouched-requires
-    cast-values-3
-    array-write-values-4
+    cast-row-2
+    row-requires
     returns)

@@ -9,23 +9,14 @@ use Rattle.cases.proofs.writing.show_back.Tie as tie
 write-requires : tie.Need-write-requires
 write-requires c κs = search needs
 
-cast-values : tie.Need-cast-values
-cast-values c = search needs
-
-array-write-values : tie.Need-array-write-values
-array-write-values c = search needs
-
-array-write-values-2 : tie.Need-array-write-values-2
-array-write-values-2 c = search needs
+slice-aggregate-show : tie.Need-slice-aggregate-show
+slice-aggregate-show c = search needs
 
 sum-of-bytes-requires : tie.Need-sum-of-bytes-requires
 sum-of-bytes-requires c κs = search needs
 
-array-write-values-3 : tie.Need-array-write-values-3
-array-write-values-3 c = search needs
-
-slice-aggregate-show : tie.Need-slice-aggregate-show
-slice-aggregate-show c = search needs
+row-requires : tie.Need-row-requires
+row-requires c κs = search needs
 
 show-requires : tie.Need-show-requires
 show-requires c κs = search needs
@@ -38,6 +29,9 @@ slice-reshare-prefix-show-loaded c = search needs
 
 slice-aggregate-show-loaded : tie.Need-slice-aggregate-show-loaded
 slice-aggregate-show-loaded c = simp length-take (omega arith)
+
+equal-requires : tie.Need-equal-requires
+equal-requires c κs = search needs
 
 show-loaded-requires : tie.Need-show-loaded-requires
 show-loaded-requires c κs = search needs
@@ -53,16 +47,14 @@ show-back-spec =
     tie.close
     (tie.spec
     write-requires
-    cast-values
-    array-write-values
-    array-write-values-2
-    sum-of-bytes-requires
-    array-write-values-3
     slice-aggregate-show
+    sum-of-bytes-requires
+    row-requires
     show-requires
     within-requires
     slice-reshare-prefix-show-loaded
     slice-aggregate-show-loaded
+    equal-requires
     show-loaded-requires
     same-length
     returns)
