@@ -1,10 +1,15 @@
 // An image cut at every length, and with each byte changed.
 use crate::loading;
 use crate::showing;
+use crate::showing::sum_of_sets;
+use crate::showing::sum_of_words;
 
 // Whether the sums of four memories of four places are those of their marks.
 fn as_marked(values: [u64; 12]) -> bool {
-    values[8] == 369408 && values[9] == 708032 && values[10] == 46653 && values[11] == 385277
+    values[8] == sum_of_words(&[loading::WORD_MARK; 4])
+        && values[9] == sum_of_words(&[loading::OWNER_MARK; 4])
+        && values[10] == sum_of_sets(&[loading::JUMPERS_MARK; 4])
+        && values[11] == sum_of_sets(&[loading::WRITERS_MARK; 4])
 }
 
 // The loader's answer, or 999 where a refusal changed a memory's sum.

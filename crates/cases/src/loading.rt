@@ -6,6 +6,15 @@ use crate::showing::sum_of_sets;
 use crate::showing::sum_of_words;
 use machine::Processor;
 
+// What the memories hold before a load.
+pub(crate) const WORD_MARK: u32 = 11;
+
+pub(crate) const OWNER_MARK: u32 = 22;
+
+pub(crate) const JUMPERS_MARK: u64 = 33;
+
+pub(crate) const WRITERS_MARK: u64 = 44;
+
 // The values of a line; `held` has the memories' sums.
 fn row(cpu: Processor, answer: u32, held: [u64; 4]) -> [u64; 12] {
     let regs = cpu.regs;
@@ -49,10 +58,10 @@ pub(crate) fn loaded_over_marks(bytes: &[u8], lengths: Numbers) -> [u64; 12] {
     let o = reading::within(lengths.second, 2050);
     let j = reading::within(lengths.third, 2050);
     let v = reading::within(lengths.fourth, 2050);
-    let mut words = [11u32; 2050];
-    let mut owners = [22u32; 2050];
-    let mut jumpers = [33u64; 2050];
-    let mut writers = [44u64; 2050];
+    let mut words = [WORD_MARK; 2050];
+    let mut owners = [OWNER_MARK; 2050];
+    let mut jumpers = [JUMPERS_MARK; 2050];
+    let mut writers = [WRITERS_MARK; 2050];
     loaded(
         bytes,
         &mut words[..w],

@@ -43,7 +43,7 @@ pub(crate) fn show(form: &[u8], values: [u64; 12]) {
     }
 }
 
-// Any change of one place changes the sum.
+// A change of one place changes the sum, unless it is by a multiple of 1000003, a prime.
 fn mixed(sum: u64, value: u64) -> u64 {
     (sum % 1000003 * 31 + value % 1000003 + 1) % 1000003
 }
