@@ -4,13 +4,15 @@ use mathlib.Core.Bool.{Bool, _&&_}
 use mathlib.Core.List.{List, []}
 use Prim.Native.Nat.{ℕ, _+_, min}
 use Rattle.common.specs.AddressSets.{setAt, goodSet, inSet}
+use Rattle.common.specs.Instructions.{arithmetic}
 use Rattle.rules.specs.Compartments.{member}
 use Rattle.rules.specs.State.{State, owns}
 use Rattle.rules.specs.Checks.{setsWithin, returns}
 use Rattle.rules.specs.Step.{owned, joined, joinedServices, joinAt}
-use Rattle.arithmetic.specs.Picked.{picked, branchTarget}
-use Rattle.arithmetic.specs.Promises as arithmetic
+use Rattle.arithmetic.specs.Targets.{branchTarget}
+use Rattle.arithmetic.specs.Promises as made
 use Rattle.rights.specs.Rights.{free, mayStoreAt}
+use Rattle.rights.specs.Arrivals.{prevOf, jumpedOf, unasked, home}
 use Rattle.rights.specs.Promises as rights
 use Rattle.address_sets.specs.declared.Pair.{Pair}
 use Rattle.address_sets.specs.SetLaws.{pairOf, pairAt}
@@ -27,11 +29,11 @@ use Rattle.service.specs.Served.{servedOf, serving}
 use Rattle.service.specs.Promises as service
 
 -- arithmetic: arith, branch_target
-pub arith-once : (op x y r q : ℕ) → r ≡ picked op x y → q ≡ picked op x y → r ≡ q
-arith-once = arithmetic.arith-once
+pub arith-once : (op x y r q : ℕ) → r ≡ arithmetic op x y → q ≡ arithmetic op x y → r ≡ q
+arith-once = made.arith-once
 
 pub branch-target-once : (pc low r q : ℕ) → r ≡ branchTarget pc low → q ≡ branchTarget pc low → r ≡ q
-branch-target-once = arithmetic.branch-target-once
+branch-target-once = made.branch-target-once
 
 -- rights: is_free, jumped_in, may_store
 pub is-free-once : (owner next : ℕ) (r q : Bool) → r ≡ free owner next → q ≡ free owner next → r ≡ q
@@ -42,6 +44,19 @@ jumped-in-once = rights.jumped-in-once
 
 pub may-store-once : (owner target writers : ℕ) (r q : Bool) → r ≡ mayStoreAt owner target writers → q ≡ mayStoreAt owner target writers → r ≡ q
 may-store-once = rights.may-store-once
+
+-- rights: unasked, prev_of, jumped_of, is_home of an arrival
+pub unasked-once : (prev : ℕ) (jumped : Bool) (r q : ℕ) → r ≡ unasked prev jumped → q ≡ unasked prev jumped → r ≡ q
+unasked-once = rights.unasked-once
+
+pub prev-of-once : (arrival r q : ℕ) → r ≡ prevOf arrival → q ≡ prevOf arrival → r ≡ q
+prev-of-once = rights.prev-of-once
+
+pub jumped-of-once : (arrival : ℕ) (r q : Bool) → r ≡ jumpedOf arrival → q ≡ jumpedOf arrival → r ≡ q
+jumped-of-once = rights.jumped-of-once
+
+pub is-home-once : (arrival owner : ℕ) (r q : Bool) → r ≡ home arrival owner → q ≡ home arrival owner → r ≡ q
+is-home-once = rights.is-home-once
 
 -- address_sets: pair_at, all_good, has, clipped
 pub pair-at-once : (words : List ℕ) (q j : ℕ) (r p : Pair) → pairOf r ≡ pairAt words (q + 1) j → pairOf p ≡ pairAt words (q + 1) j → r ≡ p

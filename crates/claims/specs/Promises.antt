@@ -305,8 +305,8 @@ pub read-once : (places : List ℕ) (at r q : ℕ) → r ≡ getD places at 0 �
 read-once = memory.read-once
 
 -- moves: decide
-pub decide-once : (settled : Bool) (regs : List ℕ) (pc prev : ℕ) (jumped : Bool) (next n : ℕ) (words owners jumpers writers : List ℕ) (r q : Move)
-    → r ≡ moveFrom settled regs pc prev jumped next n words owners jumpers writers → q ≡ moveFrom settled regs pc prev jumped next n words owners jumpers writers → r ≡ q
+pub decide-once : (arrival : ℕ) (regs : List ℕ) (pc next n : ℕ) (words owners jumpers writers : List ℕ) (r q : Move)
+    → r ≡ moveFrom arrival regs pc next n words owners jumpers writers → q ≡ moveFrom arrival regs pc next n words owners jumpers writers → r ≡ q
 decide-once = moves.decide-once
 
 -- monitor: isolate, with the owners, jumpers and writers; add_target, with the sets

@@ -21,10 +21,11 @@ use Rattle.rules.specs.Formed.{step-formed}
 use Rattle.rules.specs.FormLaws.{n-most}
 use Rattle.moves.specs.declared.Move.{Move}
 use Rattle.rights.specs.Rights.{free}
-use Rattle.moves.specs.Moves.{moveFrom, settled-move}
+use Rattle.rights.specs.Arrivals.{prevOf, jumpedOf, unasked, unasked-far, unasked-prev, unasked-jumped}
+use Rattle.moves.specs.Moves.{moveFrom, home-move}
 use Rattle.memory.specs.Places.{putReg, putWord}
 use Rattle.moves.specs.Applied.{moveAt, move-stops, move-runs, move-free}
-use Rattle.service.specs.Served.{Serving, serving}
+use Rattle.service.specs.Served.{at, Serving, serving}
 use Rattle.service.specs.ServiceLaws.{backWith, serving-stops, serving-runs}
 use Rattle.form.specs.Form.{formOf, formed-by}
 
@@ -59,12 +60,12 @@ module _ (budget count : ℕ) (s : State) where
   unfolding run
   used h = let k : budget - count ≡ 0 = omega arith in simp (k, add-zero)
 
--- settled: the compartment that ran last is known to pass 15
-abbrev pub Home : Bool → ℕ → ℕ → Type 0
-Home settled prev next = settled ≡ true → free prev next ≡ true
+-- an arrival without a jump is that of a compartment which passes 15
+abbrev pub Home : ℕ → ℕ → Type 0
+Home arrival next = arrival < 4294967296 → free arrival next ≡ true
 
-pub not-home : (prev next : ℕ) → Home false prev next
-not-home prev next z = clash z refl
+pub unasked-home : (prev : ℕ) (jumped : Bool) (next arrival : ℕ) → arrival ≡ unasked prev jumped → Home arrival next
+unasked-home prev jumped next arrival e h = absurd (unasked-far prev jumped (subst (λ (a : ℕ). a < 4294967296) e h))
 
 -- ---- what holds at the loop's head: count steps of the run from s₀ are behind, and s is reached
 
@@ -76,6 +77,10 @@ pub record Going (s₀ s : State) (budget count : ℕ) : Type 0 where
   pub writers : length (s .writers) ≡ length (s₀ .writers)
   pub form : formed s ≡ true
   pub so-far : run budget s₀ ≡ after count (run (budget - count) s)
+
+-- what holds inside, at the head of the loop over memory words: wherever e was reached from, s is reached from there too
+abbrev pub Reached : State → State → ℕ → ℕ → ℕ → Type 0
+Reached e s budget begun count = (s₀ : State) → Going s₀ e budget begun → Going s₀ s budget count
 
 -- before the loop
 module _ (budget : ℕ) (s : State) where
@@ -128,14 +133,14 @@ module _ (s₀ s : State) (budget count : ℕ) (g : Going s₀ s budget count) w
             }
 
   -- at a memory word: m is what was decided
-  module _ (h : count < budget) (k : s .cpu .pc < s .cpu .n) (settled : Bool) (at-home : Home settled (s .cpu .prev) (s .cpu .next)) (m : Move) (decided : m ≡ moveFrom settled (s .cpu .regs) (s .cpu .pc) (s .cpu .prev) (s .cpu .jumped) (s .cpu .next) (s .cpu .n) (s .words) (s .owners) (s .jumpers) (s .writers)) where
+  module _ (h : count < budget) (k : s .cpu .pc < s .cpu .n) (arrival : ℕ) (ep : s .cpu .prev ≡ prevOf arrival) (ej : s .cpu .jumped ≡ jumpedOf arrival) (at-home : Home arrival (s .cpu .next)) (m : Move) (decided : m ≡ moveFrom arrival (s .cpu .regs) (s .cpu .pc) (s .cpu .next) (s .cpu .n) (s .words) (s .owners) (s .jumpers) (s .writers)) where
     small : s .cpu .n ≤ 4294967295
     small = let l = n-most s (g .form) in omega arith
 
     e : m ≡ moveAt s
     e =
-        decided
-        ∙ settled-move settled (s .cpu .regs) (s .cpu .pc) (s .cpu .prev) (s .cpu .jumped) (s .cpu .next) (s .cpu .n) (s .words) (s .owners) (s .jumpers) (s .writers) at-home
+        simp (ep, ej)
+        (decided ∙ home-move arrival (s .cpu .regs) (s .cpu .pc) (s .cpu .next) (s .cpu .n) (s .words) (s .owners) (s .jumpers) (s .writers) at-home)
 
     pub word-stops : m .answer ≢ answer.done → record { answer = m .answer; state = s; count = count } ≡ run budget s₀
     word-stops a = stops h (record { answer = m .answer; state = s }) (move-stops s (g .form) k small m e a) a
@@ -144,7 +149,7 @@ module _ (s₀ s : State) (budget count : ℕ) (g : Going s₀ s budget count) w
       abbrev there : State
       there =
           record {
-            cpu = record { n = s .cpu .n; regs = regs; pc = m .pc; prev = m .owner; jumped = m .jumped; next = s .cpu .next; services = s .cpu .services };
+            cpu = record { n = s .cpu .n; regs = regs; pc = m .pc; prev = prevOf (m .arrival); jumped = jumpedOf (m .arrival); next = s .cpu .next; services = s .cpu .services };
             words = words;
             owners = s .owners;
             jumpers = s .jumpers;
@@ -155,8 +160,10 @@ module _ (s₀ s : State) (budget count : ℕ) (g : Going s₀ s budget count) w
       word-turns = turns h (record { answer = answer.done; state = there }) (simp (r, w) (move-runs s (g .form) k small m e a)) refl
 
     -- who ran passed 15
-    pub word-home : m .answer ≡ answer.done → Home true (m .owner) (s .cpu .next)
-    word-home a z = ap (λ (v : Move). free (v .owner) (s .cpu .next)) e ∙ move-free s (ap (λ (v : Move). v .answer) (sym e) ∙ a)
+    pub word-home : m .answer ≡ answer.done → Home (m .arrival) (s .cpu .next)
+    word-home a =
+        let z : moveAt s .answer ≡ answer.done = ap (λ (v : Move). v .answer) (sym e) ∙ a in
+        subst (λ (v : Move). Home (v .arrival) (s .cpu .next)) (sym e) (move-free s (g .form) z)
 
   -- elsewhere: o is what the step at a service came to
   module _ (h : count < budget) (k : s .cpu .n ≤ s .cpu .pc) (o : Serving) (e : o ≡ serving s) where
@@ -167,6 +174,32 @@ module _ (s₀ s : State) (budget count : ℕ) (g : Going s₀ s budget count) w
     pub service-turns : o .answer ≡ answer.done
         → Going s₀ (record { cpu = backWith (s .cpu) (o .number) (o .next) (o .services); words = s .words; owners = o .owners; jumpers = o .jumpers; writers = o .writers }) budget (count + 1)
     service-turns a = turns h (record { answer = o .answer; state = record { cpu = backWith (s .cpu) (o .number) (o .next) (o .services); words = s .words; owners = o .owners; jumpers = o .jumpers; writers = o .writers } }) (serving-runs s (g .form) k o e a) a
+
+-- ---- the state by the arrival that the code keeps
+
+module _ (regs : List ℕ) (n pc next : ℕ) (services words owners jumpers writers : List ℕ) (prev : ℕ) (jumped : Bool) (arrival : ℕ) where
+  abbrev told : State
+  told = at regs n pc prev jumped next services words owners jumpers writers
+
+  abbrev kept : State
+  kept = at regs n pc (prevOf arrival) (jumpedOf arrival) next services words owners jumpers writers
+
+  -- not asked for 15 yet
+  pub arrived : prev < 4294967296 → arrival ≡ unasked prev jumped → (s₀ : State) (budget count : ℕ) → Going s₀ told budget count → Going s₀ kept budget count
+  arrived h e s₀ budget count g = simp (e, unasked-prev prev h jumped, unasked-jumped prev h jumped) g
+
+  -- taken apart for a service
+  pub called : prev ≡ prevOf arrival → jumped ≡ jumpedOf arrival → (o : Serving) → o ≡ serving told → o ≡ serving kept
+  called ep ej o e = simp (← ep, ← ej) e
+
+-- at the end of the loop over services the numbers are those of its head or of the loop inside it
+module _ (s₀ : State) (budget n next : ℕ) (services owners jumpers writers : List ℕ) where
+  pub left : (words regs : List ℕ) (pc arrival count : ℕ) (words₁ regs₁ : List ℕ) (pc₁ arrival₁ count₁ : ℕ)
+      → words ≡ words₁ → count ≡ count₁ → pc ≡ pc₁ → arrival ≡ arrival₁ → regs ≡ regs₁
+      → Going s₀ (at regs₁ n pc₁ (prevOf arrival₁) (jumpedOf arrival₁) next services words₁ owners jumpers writers) budget count₁ → budget ≤ count₁
+      → Going s₀ (at regs n pc (prevOf arrival) (jumpedOf arrival) next services words owners jumpers writers) budget count × (budget ≤ count)
+  left words regs pc arrival count words₁ regs₁ pc₁ arrival₁ count₁ ew ec ep ea er g h =
+      (simp (ew, ec, ep, ea, er) g, omega arith)
 
 -- one step is a run of budget 1
 pub one-step : (s : State) (r : Ran) → r ≡ run 1 s → record { answer = r .answer; state = r .state } ≡ step s

@@ -2,7 +2,9 @@
 ghost use mathlib.Core.Path.{_≡_};
 ghost use Rattle.rules.specs.Step.{step};
 ghost use Rattle.rules.specs.Run.{run};
+ghost use Rattle.rights.specs.Arrivals.{prevOf, jumpedOf};
 ghost use Rattle.machine.specs.Views.{stateOf, steppedOf, ranOf};
+use rights::arrival;
 
 #[repr(C)]
 pub struct Processor {
@@ -38,15 +40,16 @@ fn ended(
     n: u32,
     regs: [u32; 16],
     pc: u32,
-    prev: u32,
-    jumped: bool,
+    arrival: u64,
     next: u32,
     services: [u64; 3],
     answer: u32,
     count: u32,
 ) -> Ran
-    ensures { λ r. ⌜ r ≡ record { cpu = record { n = n; regs = regs; pc = pc; prev = prev; jumped = jumped; next = next; services = services }; answer = answer; count = count } ⌝ }
+    ensures { λ r. ⌜ r ≡ record { cpu = record { n = n; regs = regs; pc = pc; prev = prevOf arrival; jumped = jumpedOf arrival; next = next; services = services }; answer = answer; count = count } ⌝ }
 {
+    let prev = arrival::prev_of(arrival);
+    let jumped = arrival::jumped_of(arrival);
     Ran {
         cpu: Processor {
             n,
@@ -64,7 +67,8 @@ fn ended(
 
 impl Processor {
     // Steps until the first nonzero answer or until the budget is used. What 14 looks at cannot change on the way, so it is
-    // looked at before the first step. The record is taken apart, so that the loop keeps its numbers where they are cheap.
+    // looked at before the first step. The record is taken apart, and the steps at memory words have a loop of their own inside the
+    // one over services, so that they keep their numbers where they are cheap.
     pub fn run(
         self,
         words: &mut [u32],
@@ -76,26 +80,17 @@ impl Processor {
         ensures { λ r. ⌜ ranOf r (now (words .exit)) (now (owners .exit)) (now (jumpers .exit)) (now (writers .exit)) ≡ run budget (stateOf self (now (words .entry)) (now (owners .entry)) (now (jumpers .entry)) (now (writers .entry))) ⌝ }
     {
         let mut count: u32 = 0;
-        let n = self.n;
-        let mut regs = self.regs;
-        let mut pc = self.pc;
-        let mut prev = self.prev;
-        let mut jumped = self.jumped;
-        let mut next = self.next;
-        let mut services = self.services;
         if budget == 0 {
-            return ended(
-                n,
-                regs,
-                pc,
-                prev,
-                jumped,
-                next,
-                services,
-                answers::DONE,
+            return Ran {
+                cpu: self,
+                answer: answers::DONE,
                 count,
-            );
+            };
         }
+        let n = self.n;
+        let mut pc = self.pc;
+        let prev = self.prev;
+        let mut next = self.next;
         if !form::is_formed(
             n,
             pc,
@@ -106,84 +101,59 @@ impl Processor {
             jumpers.len(),
             writers.len(),
         ) {
-            return ended(
+            return Ran {
+                cpu: self,
+                answer: answers::BAD_FORM,
+                count,
+            };
+        }
+        let jumped = self.jumped;
+        let mut arrival = arrival::unasked(prev, jumped);
+        let mut regs = self.regs;
+        let mut services = self.services;
+        while count < budget {
+            while pc < n {
+                if budget <= count {
+                    break;
+                }
+                let m = moves::decide(&regs, pc, arrival, next, n, words, owners, jumpers, writers);
+                let answer = m.answer;
+                if answer != answers::DONE {
+                    return ended(n, regs, pc, arrival, next, services, answer, count);
+                }
+                memory::put_reg(&mut regs, m.rd, m.value);
+                memory::put_word(words, n, m.place, m.word);
+                pc = m.pc;
+                arrival = m.arrival;
+                count = count + 1;
+            }
+            if budget <= count {
+                break;
+            }
+            let s = service::serve(
+                &regs,
                 n,
-                regs,
                 pc,
-                prev,
-                jumped,
+                arrival::prev_of(arrival),
+                arrival::jumped_of(arrival),
                 next,
                 services,
-                answers::BAD_FORM,
-                count,
-            );
-        }
-        // whether prev is known to pass 15: it is after a step at a memory word
-        let mut settled = false;
-        while count < budget {
-            if n <= pc {
-                let s = service::serve(
-                    &regs,
-                    n,
-                    pc,
-                    prev,
-                    jumped,
-                    next,
-                    services,
-                    words,
-                    owners,
-                    jumpers,
-                    writers,
-                );
-                let answer = s.answer;
-                if answer != answers::DONE {
-                    return ended(n, regs, pc, prev, jumped, next, services, answer, count);
-                }
-                pc = regs[15];
-                prev = s.number;
-                settled = false;
-                jumped = true;
-                next = s.next;
-                services = s.services;
-                count += 1;
-                continue;
-            }
-            let m = moves::decide(
-                &regs,
-                pc,
-                prev,
-                settled,
-                jumped,
-                next,
-                n,
                 words,
                 owners,
                 jumpers,
                 writers,
             );
-            let answer = m.answer;
+            let answer = s.answer;
             if answer != answers::DONE {
-                return ended(n, regs, pc, prev, jumped, next, services, answer, count);
+                return ended(n, regs, pc, arrival, next, services, answer, count);
             }
-            memory::put_reg(&mut regs, m.rd, m.value);
-            memory::put_word(words, n, m.place, m.word);
-            pc = m.pc;
-            prev = m.owner;
-            settled = true;
-            jumped = m.jumped;
-            count = count + 1;
+            pc = regs[15];
+            arrival = arrival::unasked(s.number, true);
+            next = s.next;
+            services = s.services;
+            count += 1;
         }
-        ended(
-            n,
-            regs,
-            pc,
-            prev,
-            jumped,
-            next,
-            services,
-            answers::DONE,
-            count,
-        )
+        ended(n, regs, pc, arrival, next, services, answers::DONE, count)
     }
 
     // One step: a run of budget 1.

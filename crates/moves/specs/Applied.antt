@@ -19,6 +19,9 @@ use Rattle.rules.specs.Checks.{formed, badOwner, arrives, instructionAt, storeV
 use Rattle.rules.specs.Step.{ranInstruction, commit, step}
 use Rattle.memory.specs.Places.{putReg, putWord}
 use Rattle.rights.specs.Rights.{free, mayStoreAt}
+use Rattle.rights.specs.RightsLaws.{free-below}
+use Rattle.rights.specs.Arrivals.{prevOf, jumpedOf, own-prev, own-still, leapt-prev, leapt-jumped}
+use Rattle.rules.specs.FormLaws.{numbers-good}
 use Rattle.moves.specs.declared.Move.{Move}
 use Rattle.moves.specs.Moves.{no-register, nowhere, arrivesAt, loadMove, storeMove, bnzMove, instructionMove, wordMove, moveOf}
 
@@ -30,8 +33,8 @@ applied s m =
             n = s .cpu .n;
             regs = putReg (s .cpu .regs) (m .rd) (m .value);
             pc = m .pc;
-            prev = m .owner;
-            jumped = m .jumped;
+            prev = prevOf (m .arrival);
+            jumped = jumpedOf (m .arrival);
             next = s .cpu .next;
             services = s .cpu .services;
           };
@@ -170,7 +173,7 @@ module _ (s : State) (c : ℕ) (i : Decoded) where
   answers (halt e) = simp e
 
   -- where the answer is 0 the move, applied, is what the rules say
-  module _ (ha : i .a < 16) (hb : i .b < 16) (hl : op.add ≤ i .op → i .op ≤ op.leq → i .low < 16) (hn : s .cpu .n ≤ nowhere) where
+  module _ (ha : i .a < 16) (hb : i .b < 16) (hl : op.add ≤ i .op → i .op ≤ op.leq → i .low < 16) (hn : s .cpu .n ≤ nowhere) (hc : c < 4294967296) where
     none-stored : (word : ℕ) → putWord (s .words) (s .cpu .n) nowhere word ≡ s .words
     unfolding putWord
     none-stored word = simp (le-ltb nowhere (s .cpu .n) hn)
@@ -190,7 +193,7 @@ module _ (s : State) (c : ℕ) (i : Decoded) where
       where
         go : (t : Bool) → ltb x (s .cpu .n) ≡ t → loadMove c on (i .b) x (s .cpu .n) (s .words) .answer ≡ answer.done
             → applied s (loadMove c on (i .b) x (s .cpu .n) (s .words)) ≡ ranInstruction s c i
-        go true h k = simp (h, e, none-stored 0, one-put (i .b) (getD (s .words) x 0) hb)
+        go true h k = simp (h, e, none-stored 0, one-put (i .b) (getD (s .words) x 0) hb, own-prev c hc, own-still c hc)
         go false h k = let z : _≡_ {A = ℕ} 5 0 = simp h at k in absurd (omega arith)
 
     store-applies : i .op ≡ op.store → storeMove c on x y (s .cpu .n) (s .owners) (s .writers) .answer ≡ answer.done
@@ -201,7 +204,7 @@ module _ (s : State) (c : ℕ) (i : Decoded) where
         go : (t u : Bool) → ltb x (s .cpu .n) ≡ t → mayStoreAt c (getD (s .owners) x 0) (getD (s .writers) x 0) ≡ u
             → storeMove c on x y (s .cpu .n) (s .owners) (s .writers) .answer ≡ answer.done
             → applied s (storeMove c on x y (s .cpu .n) (s .owners) (s .writers)) ≡ ranInstruction s c i
-        go true true h k l = simp (h, k, e, none-put 0)
+        go true true h k l = simp (h, k, e, none-put 0, own-prev c hc, own-still c hc)
         go true false h k l = let z : _≡_ {A = ℕ} 7 0 = simp (h, k) at l in absurd (omega arith)
         go false u h k l = let z : _≡_ {A = ℕ} 6 0 = simp h at l in absurd (omega arith)
 
@@ -210,20 +213,20 @@ module _ (s : State) (c : ℕ) (i : Decoded) where
     bnz-applies e = go (eqb x 0) refl
       where
         go : (t : Bool) → eqb x 0 ≡ t → applied s (bnzMove c on (s .cpu .pc) (i .low) x) ≡ ranInstruction s c i
-        go true h = simp (h, e, none-stored 0, none-put 0)
-        go false h = simp (h, e, none-stored 0, none-put 0)
+        go true h = simp (h, e, none-stored 0, none-put 0, own-prev c hc, own-still c hc)
+        go false h = simp (h, e, none-stored 0, none-put 0, own-prev c hc, own-still c hc)
 
     applies : Opcode (i .op) → m .answer ≡ answer.done → applied s m ≡ ranInstruction s c i
     unfolding instructionMove ranInstruction pcAfter regsAfter wordsAfter jumps
-    applies (nop e) z = simp (e, none-stored 0, none-put 0)
-    applies (const e) z = simp (e, none-stored 0, one-put (i .a) (i .low) ha)
-    applies (mov e) z = simp (e, none-stored 0, one-put (i .b) x hb)
+    applies (nop e) z = simp (e, none-stored 0, none-put 0, own-prev c hc, own-still c hc)
+    applies (const e) z = simp (e, none-stored 0, one-put (i .a) (i .low) ha, own-prev c hc, own-still c hc)
+    applies (mov e) z = simp (e, none-stored 0, one-put (i .b) x hb, own-prev c hc, own-still c hc)
     applies (five h k) z =
-        simp (not-op 1 (λ z. omega arith), not-op 2 (λ z. omega arith), not-op 9 (λ z. omega arith), not-op 10 (λ z. omega arith), not-op 11 (λ z. omega arith), not-op 12 (λ z. omega arith), le-leb 3 (i .op) h, le-leb (i .op) 7 k, none-stored 0, one-put (i .low) (arithmetic (i .op) x y) (hl h k))
+        simp (not-op 1 (λ z. omega arith), not-op 2 (λ z. omega arith), not-op 9 (λ z. omega arith), not-op 10 (λ z. omega arith), not-op 11 (λ z. omega arith), not-op 12 (λ z. omega arith), le-leb 3 (i .op) h, le-leb (i .op) 7 k, none-stored 0, one-put (i .low) (arithmetic (i .op) x y) (hl h k), own-prev c hc, own-still c hc)
     applies (load e) z = ap (applied s) (is-load e) ∙ load-applies e (ap (λ (k : Move). k .answer) (sym (is-load e)) ∙ z)
     applies (store e) z = ap (applied s) (is-store e) ∙ store-applies e (ap (λ (k : Move). k .answer) (sym (is-store e)) ∙ z)
-    applies (jump e) z = simp (e, none-stored 0, none-put 0)
-    applies (jal e) z = simp (e, none-stored 0, one-put 15 on (omega arith))
+    applies (jump e) z = simp (e, none-stored 0, none-put 0, leapt-prev c hc, leapt-jumped c hc)
+    applies (jal e) z = simp (e, none-stored 0, one-put 15 on (omega arith), leapt-prev c hc, leapt-jumped c hc)
     applies (bnz e) z = ap (applied s) (is-bnz e) ∙ bnz-applies e
     applies (halt e) z = let q : _≡_ {A = ℕ} 1 0 = simp e at z in absurd (omega arith)
 
@@ -271,15 +274,18 @@ module _ (s : State) (w : formed s ≡ true) (k : s .cpu .pc < s .cpu .n) (hn : 
       go true e = simp e (answers s owner i op-known)
       go false e = simp e
 
-  word-applies : word .answer ≡ answer.done → applied s word ≡ ranInstruction s owner i
+  owner-small : free owner (s .cpu .next) ≡ true → owner < 4294967296
+  owner-small f = let b = free-below owner (s .cpu .next) f in let l = numbers-good s w .high in omega arith
+
+  word-applies : free owner (s .cpu .next) ≡ true → word .answer ≡ answer.done → applied s word ≡ ranInstruction s owner i
   unfolding wordMove instructionAt
-  word-applies = go (eqb (i .answer) answer.done) refl
+  word-applies f = go (eqb (i .answer) answer.done) refl
     where
       go : (t : Bool) → eqb (i .answer) answer.done ≡ t → word .answer ≡ answer.done → applied s word ≡ ranInstruction s owner i
       go true e z =
           let d = decoded-small (getD (s .words) (s .cpu .pc) 0) in
           let r = rd-small (getD (s .words) (s .cpu .pc) 0) (eqb-true (i .answer) answer.done e) in
-          simp e (applies s owner i (d .1) (d .2) r hn op-known (simp e at z))
+          simp e (applies s owner i (d .1) (d .2) r hn (owner-small f) op-known (simp e at z))
       go false e z = let q : _≡_ {A = ℕ} 3 0 = simp e at z in absurd (omega arith)
 
   -- the whole of it: the answer, and the state
@@ -299,7 +305,7 @@ module _ (s : State) (w : formed s ≡ true) (k : s .cpu .pc < s .cpu .n) (hn : 
       go : (f a : Bool) → free owner (s .cpu .next) ≡ f → arrives s ≡ a → moveAt s .answer ≡ answer.done → applied s (moveAt s) ≡ commit s
       go false a e h z = let q : _≡_ {A = ℕ} 15 0 = simp e at z in absurd (omega arith)
       go true false e h z = let q : _≡_ {A = ℕ} 4 0 = simp (e, ← come-is, h) at z in absurd (omega arith)
-      go true true e h z = simp (e, ← come-is, h, in-memory, owner-is) (word-applies (simp (e, ← come-is, h) at z))
+      go true true e h z = simp (e, ← come-is, h, in-memory, owner-is) (word-applies e (simp (e, ← come-is, h) at z))
 
   -- a step is the move, applied where its answer is 0
   pub move-stops : (v : Move) → v ≡ moveAt s → v .answer ≢ answer.done → record { answer = v .answer; state = s } ≡ step s
@@ -317,29 +323,32 @@ module _ (s : State) (w : formed s ≡ true) (k : s .cpu .pc < s .cpu .n) (hn : 
 
 -- ---- who ran passed 15
 
-module _ (i : Decoded) (regs : List ℕ) (pc owner n : ℕ) (words owners writers : List ℕ) where
-  owner-cond : (t : Bool) (x y : Move) → cond t x y .owner ≡ cond t (x .owner) (y .owner)
-  owner-cond true x y = refl
-  owner-cond false x y = refl
+module _ (i : Decoded) (regs : List ℕ) (pc owner n : ℕ) (words owners writers : List ℕ) (h : owner < 4294967296) where
+  whose-cond : (t : Bool) (x y : Move) → prevOf (cond t x y .arrival) ≡ cond t (prevOf (x .arrival)) (prevOf (y .arrival))
+  whose-cond true x y = refl
+  whose-cond false x y = refl
 
   cond-same : (t : Bool) (o : ℕ) → cond t o o ≡ o
   cond-same true o = refl
   cond-same false o = refl
 
-  word-owner : wordMove i regs pc owner n words owners writers .owner ≡ owner
+  word-owner : prevOf (wordMove i regs pc owner n words owners writers .arrival) ≡ owner
   unfolding wordMove instructionMove loadMove storeMove bnzMove
-  word-owner = simp (owner-cond, cond-same)
+  word-owner = simp (whose-cond, own-prev owner h, leapt-prev owner h, cond-same)
 
-pub move-free : (s : State) → moveAt s .answer ≡ answer.done → free (moveAt s .owner) (s .cpu .next) ≡ true
+pub move-free : (s : State) → formed s ≡ true → moveAt s .answer ≡ answer.done → moveAt s .arrival < 4294967296 → free (moveAt s .arrival) (s .cpu .next) ≡ true
 unfolding moveOf
-move-free s = go (free owner (s .cpu .next)) (arrivesAt owner (s .cpu .prev) (s .cpu .jumped) (getD (s .jumpers) (s .cpu .pc) 0)) refl refl
+move-free s w = go (free owner (s .cpu .next)) (arrivesAt owner (s .cpu .prev) (s .cpu .jumped) (getD (s .jumpers) (s .cpu .pc) 0)) refl refl
   where
     owner : ℕ
     owner = getD (s .owners) (s .cpu .pc) 0
 
     go : (f a : Bool) → free owner (s .cpu .next) ≡ f → arrivesAt owner (s .cpu .prev) (s .cpu .jumped) (getD (s .jumpers) (s .cpu .pc) 0) ≡ a
-        → moveAt s .answer ≡ answer.done → free (moveAt s .owner) (s .cpu .next) ≡ true
-    go false a e h z = let q : _≡_ {A = ℕ} 15 0 = simp e at z in absurd (omega arith)
-    go true false e h z = let q : _≡_ {A = ℕ} 4 0 = simp (e, h) at z in absurd (omega arith)
-    go true true e h z =
-        simp (e, h, word-owner (decode (getD (s .words) (s .cpu .pc) 0)) (s .cpu .regs) (s .cpu .pc) owner (s .cpu .n) (s .words) (s .owners) (s .writers))
+        → moveAt s .answer ≡ answer.done → moveAt s .arrival < 4294967296 → free (moveAt s .arrival) (s .cpu .next) ≡ true
+    go false a e h z l = let q : _≡_ {A = ℕ} 15 0 = simp e at z in absurd (omega arith)
+    go true false e h z l = let q : _≡_ {A = ℕ} 4 0 = simp (e, h) at z in absurd (omega arith)
+    go true true e h z l =
+        let b = free-below owner (s .cpu .next) e in
+        let c = numbers-good s w .high in
+        let own : prevOf (moveAt s .arrival) ≡ owner = simp (e, h, word-owner (decode (getD (s .words) (s .cpu .pc) 0)) (s .cpu .regs) (s .cpu .pc) owner (s .cpu .n) (s .words) (s .owners) (s .writers) (omega arith)) in
+        ap (λ (o : ℕ). free o (s .cpu .next)) (sym (own-prev (moveAt s .arrival) l) ∙ own) ∙ e

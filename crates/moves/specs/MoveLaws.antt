@@ -12,10 +12,10 @@ use Rattle.common.specs.Answers as answer
 use Rattle.common.specs.Tests.{NoneOf, past}
 use Rattle.common.specs.Words.{Decoded, none as no-word, decode, opOf, aOf, bOf, lowOf}
 use Rattle.common.specs.WordLaws.{rd-small as register}
-use Rattle.common.specs.Instructions.{plus}
+use Rattle.common.specs.Instructions.{plus, arithmetic}
 use Rattle.rules.specs.Compartments.{member}
 use Rattle.rights.specs.Rights.{free}
-use Rattle.arithmetic.specs.Picked.{picked, is-arithmetic}
+use Rattle.rights.specs.Arrivals as at
 use Rattle.instructions.specs.declared.Decoded.{Decoded as Fields}
 use Rattle.instructions.specs.Masks.{fitsIn, fieldsOf, decode-fields, decode-none, decode-high}
 use Rattle.instructions.specs.Promises.{decoded}
@@ -64,23 +64,23 @@ module _ (i : Decoded) (regs : List ℕ) (pc owner n : ℕ) (words owners writer
   unfolding is.instructionMove
   jal h x ex on eo e = simp (h, e, eo, ex)
 
-  pub bnz : i .op ≡ 12 → (on : ℕ) → On on → (x : ℕ) → X x → m ≡ is.bnzMove owner on pc (i .low) x → Is
+  pub bnz : i .op ≡ 12 → (x : ℕ) → X x → m ≡ is.bnzMove owner (plus pc 1) pc (i .low) x → Is
   unfolding is.instructionMove
-  bnz h on eo x ex e = simp (h, e, eo, ex)
+  bnz h x ex e = simp (h, e, ex)
 
   pub halt : i .op ≡ 13 → m ≡ is.stop answer.halt owner → Is
   unfolding is.instructionMove
   halt h e = simp (h, e)
 
   -- the five arithmetic ones
-  pub five : 3 ≤ i .op → i .op < 8 → i .low < 16 → (on : ℕ) → On on → (x : ℕ) → X x → (y : ℕ) → Y y → (v : ℕ) → v ≡ picked (i .op) x y
+  pub five : 3 ≤ i .op → i .op < 8 → i .low < 16 → (on : ℕ) → On on → (x : ℕ) → X x → (y : ℕ) → Y y → (v : ℕ) → v ≡ arithmetic (i .op) x y
       → m ≡ is.puts owner on (i .low % 16) v → Is
   unfolding is.instructionMove
   five h k l on eo x ex y ey v ev e =
       let r : i .low % 16 ≡ i .low = omega arith in
       let a : i .op ≢ 1 = λ z. omega arith in
       let b : i .op ≢ 2 = λ z. omega arith in
-      simp (ne-eqb (i .op) 1 a, ne-eqb (i .op) 2 b, le-leb 3 (i .op) h, le-leb (i .op) 7 (omega arith), e, ev ∙ is-arithmetic (i .op) x y h, eo, ex, ey, r)
+      simp (ne-eqb (i .op) 1 a, ne-eqb (i .op) 2 b, le-leb 3 (i .op) h, le-leb (i .op) 7 (omega arith), e, ev, eo, ex, ey, r)
 
 -- an opcode that is none of those that have an arm
 no-arm : (o : ℕ) → (3 ≤ o → o < 8 → ⊥) → NoneOf 3 o → o ≢ 8 → o ≢ 9 → o ≢ 10 → o ≢ 11 → o ≢ 12 → o ≢ 13 → 14 ≤ o
@@ -156,14 +156,14 @@ module _ (word : ℕ) (i : Fields) (ei : decoded i ≡ fieldsOf word) where
       e ∙ refused regs pc owner n words owners writers ∙ ap (move regs pc owner n words owners writers) (sym (decode-high word (omega arith)))
 
 -- ---- the instruction at pc: the two stops before it, the three ways to come to it
-module _ (settled : Bool) (regs : List ℕ) (pc prev : ℕ) (jumped : Bool) (next n : ℕ) (words owners jumpers writers : List ℕ) (owner : ℕ) (eo : owner ≡ getD owners pc 0) (home : Bool) (eh : home ≡ (settled && eqb owner prev)) where
+module _ (arrival : ℕ) (regs : List ℕ) (pc next n : ℕ) (words owners jumpers writers : List ℕ) (owner : ℕ) (eo : owner ≡ getD owners pc 0) (home : Bool) (eh : home ≡ at.home arrival owner) where
   abbrev Decides : Move → Type 0
-  Decides m = m ≡ is.moveFrom settled regs pc prev jumped next n words owners jumpers writers
+  Decides m = m ≡ is.moveFrom arrival regs pc next n words owners jumpers writers
 
   abbrev Runs : Type 0
   Runs = Decides (is.wordMove (decode (getD words pc 0)) regs pc owner n words owners writers)
 
-  away : not home ≡ true → is.moveFrom settled regs pc prev jumped next n words owners jumpers writers ≡ is.moveOf regs pc prev jumped next n words owners jumpers writers
+  away : not home ≡ true → is.moveFrom arrival regs pc next n words owners jumpers writers ≡ is.moveOf regs pc (at.prevOf arrival) (at.jumpedOf arrival) next n words owners jumpers writers
   unfolding is.moveFrom
   away h = simp (← eo, ← eh, not-true home h)
 
@@ -177,18 +177,20 @@ module _ (settled : Bool) (regs : List ℕ) (pc prev : ℕ) (jumped : Bool) (nex
     not-free hf m e = simp (away h, ← eo, ← ef, not-true f hf, e)
 
     module _ (hf : not f ≡ false) where
-      pub by-own : owner ≡ prev → Runs
-      unfolding is.moveOf is.arrivesAt
-      by-own e = simp (away h, ← eo, ← ef, not-false f hf, eq-eqb owner prev e)
-
-      module _ (set : ℕ) (es : set ≡ getD jumpers pc 0) (a : Bool) (ea : a ≡ (jumped && member set prev)) where
-        pub not-come : owner ≢ prev → not a ≡ true → (m : Move) → m ≡ is.stop answer.no-arrival owner → Decides m
+      module _ (prev : ℕ) (ep : prev ≡ at.prevOf arrival) where
+        pub by-own : owner ≡ prev → Runs
         unfolding is.moveOf is.arrivesAt
-        not-come ne ha m e = simp (away h, ← eo, ← ef, not-false f hf, ne-eqb owner prev ne, ← es, ← ea, not-true a ha, e)
+        by-own e = simp (away h, ← eo, ← ef, not-false f hf, eq-eqb owner (at.prevOf arrival) (e ∙ ep))
 
-        pub by-jump : not a ≡ false → Runs
-        unfolding is.moveOf is.arrivesAt
-        by-jump ha = simp (away h, ← eo, ← ef, not-false f hf, ← es, ← ea, not-false a ha, or-true)
+        module _ (jumped : Bool) (ej : jumped ≡ at.jumpedOf arrival) (set : ℕ) (es : set ≡ getD jumpers pc 0) (a : Bool) (ea : a ≡ (jumped && member set prev)) where
+          pub not-come : owner ≢ prev → not a ≡ true → (m : Move) → m ≡ is.stop answer.no-arrival owner → Decides m
+          unfolding is.moveOf is.arrivesAt
+          not-come ne ha m e =
+              simp (away h, ← eo, ← ef, not-false f hf, ← ep, ← ej, ne-eqb owner prev ne, ← es, ← ea, not-true a ha, e)
+
+          pub by-jump : not a ≡ false → Runs
+          unfolding is.moveOf is.arrivesAt
+          by-jump ha = simp (away h, ← eo, ← ef, not-false f hf, ← ep, ← ej, ← es, ← ea, not-false a ha, or-true)
 
   pub runs : Runs → (word : ℕ) → word ≡ getD words pc 0 → (m : Move) → m ≡ is.wordMove (decode word) regs pc owner n words owners writers → Decides m
   runs r word ew m e = e ∙ ap (λ (w : ℕ). is.wordMove (decode w) regs pc owner n words owners writers) ew ∙ r

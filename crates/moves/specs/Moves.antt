@@ -2,8 +2,8 @@
 use mathlib.Core.Path.{_≡_, refl, ap, _∙_}
 use mathlib.Core.Bool.{Bool, true, false, cond, _&&_, _||_}
 use mathlib.Core.List.{List}
-use Prim.Native.Nat.{ℕ}
-use borrow.Author.Tests.{eqb-true}
+use Prim.Native.Nat.{ℕ, _<_}
+use borrow.Author.Tests.{eqb-true, ltb-true}
 use lib.Dec.{ltb, leb, eqb}
 use lib.ListN.{getD}
 use Rattle.common.specs.Answers as answer
@@ -12,6 +12,7 @@ use Rattle.common.specs.Words.{Decoded, decode}
 use Rattle.common.specs.Instructions.{reg, plus, arithmetic, branch}
 use Rattle.rules.specs.Compartments.{member}
 use Rattle.rights.specs.Rights.{free, mayStoreAt}
+use Rattle.rights.specs.Arrivals.{prevOf, jumpedOf, leapt, home, own-prev}
 use Rattle.moves.specs.declared.Move.{Move}
 
 -- no register, and no place
@@ -23,22 +24,22 @@ nowhere = 4294967295
 
 abbrev pub stop : ℕ → ℕ → Move
 stop answer owner =
-    record { answer = answer; rd = no-register; value = 0; place = nowhere; word = 0; pc = 0; owner = owner; jumped = false }
+    record { answer = answer; rd = no-register; value = 0; place = nowhere; word = 0; pc = 0; arrival = owner }
 
 abbrev pub puts : ℕ → ℕ → ℕ → ℕ → Move
 puts owner pc rd value =
-    record { answer = answer.done; rd = rd; value = value; place = nowhere; word = 0; pc = pc; owner = owner; jumped = false }
+    record { answer = answer.done; rd = rd; value = value; place = nowhere; word = 0; pc = pc; arrival = owner }
 
 abbrev pub goes : ℕ → ℕ → Move
 goes owner pc = puts owner pc no-register 0
 
 abbrev pub stores : ℕ → ℕ → ℕ → ℕ → Move
 stores owner pc place word =
-    record { answer = answer.done; rd = no-register; value = 0; place = place; word = word; pc = pc; owner = owner; jumped = false }
+    record { answer = answer.done; rd = no-register; value = 0; place = place; word = word; pc = pc; arrival = owner }
 
 abbrev pub leaps : ℕ → ℕ → ℕ → ℕ → Move
 leaps owner pc rd value =
-    record { answer = answer.done; rd = rd; value = value; place = nowhere; word = 0; pc = pc; owner = owner; jumped = true }
+    record { answer = answer.done; rd = rd; value = value; place = nowhere; word = 0; pc = pc; arrival = leapt owner }
 
 -- ---- arrival at a word
 
@@ -87,22 +88,24 @@ moveOf regs pc prev jumped next n words owners jumpers writers =
     (cond (arrivesAt owner prev jumped (getD jumpers pc 0)) (wordMove (decode (getD words pc 0)) regs pc owner n words owners writers) (stop answer.no-arrival owner))
     (stop answer.bad-owner owner)
 
--- the same where it may be known (settled) that prev passes 15: then at a word of prev's own neither 15 nor 4 is asked
-unfoldable pub moveFrom : Bool → List ℕ → ℕ → ℕ → Bool → ℕ → ℕ → List ℕ → List ℕ → List ℕ → List ℕ → Move
-moveFrom settled regs pc prev jumped next n words owners jumpers writers =
+-- the same by the arrival: at a word of the compartment that just ran, without a jump, neither 15 nor 4 is asked
+unfoldable pub moveFrom : ℕ → List ℕ → ℕ → ℕ → ℕ → List ℕ → List ℕ → List ℕ → List ℕ → Move
+moveFrom arrival regs pc next n words owners jumpers writers =
     let owner = getD owners pc 0 in
-    cond (settled && eqb owner prev) (wordMove (decode (getD words pc 0)) regs pc owner n words owners writers)
-    (moveOf regs pc prev jumped next n words owners jumpers writers)
+    cond (home arrival owner) (wordMove (decode (getD words pc 0)) regs pc owner n words owners writers)
+    (moveOf regs pc (prevOf arrival) (jumpedOf arrival) next n words owners jumpers writers)
 
--- where that is so, it is the move
-pub settled-move : (settled : Bool) (regs : List ℕ) (pc prev : ℕ) (jumped : Bool) (next n : ℕ) (words owners jumpers writers : List ℕ)
-    → (settled ≡ true → free prev next ≡ true)
-    → moveFrom settled regs pc prev jumped next n words owners jumpers writers ≡ moveOf regs pc prev jumped next n words owners jumpers writers
-unfolding moveFrom moveOf arrivesAt
-settled-move settled regs pc prev jumped next n words owners jumpers writers h = go settled (eqb (getD owners pc 0) prev) refl refl
+-- where that compartment passes 15, it is the move
+pub home-move : (arrival : ℕ) (regs : List ℕ) (pc next n : ℕ) (words owners jumpers writers : List ℕ) → (arrival < 4294967296 → free arrival next ≡ true)
+    → moveFrom arrival regs pc next n words owners jumpers writers ≡ moveOf regs pc (prevOf arrival) (jumpedOf arrival) next n words owners jumpers writers
+unfolding moveFrom moveOf arrivesAt home
+home-move arrival regs pc next n words owners jumpers writers h = go (ltb arrival 4294967296) (eqb (getD owners pc 0) arrival) refl refl
   where
-    go : (s t : Bool) → settled ≡ s → eqb (getD owners pc 0) prev ≡ t
-        → moveFrom settled regs pc prev jumped next n words owners jumpers writers ≡ moveOf regs pc prev jumped next n words owners jumpers writers
+    go : (s t : Bool) → ltb arrival 4294967296 ≡ s → eqb (getD owners pc 0) arrival ≡ t
+        → moveFrom arrival regs pc next n words owners jumpers writers ≡ moveOf regs pc (prevOf arrival) (jumpedOf arrival) next n words owners jumpers writers
     go false t e f = simp e
     go true false e f = simp (e, f)
-    go true true e f = simp (e, f, ap (λ (o : ℕ). free o next) (eqb-true (getD owners pc 0) prev f) ∙ h e)
+    go true true e f =
+        let k = ltb-true arrival 4294967296 e in
+        let o = eqb-true (getD owners pc 0) arrival f in
+        simp (e, f, own-prev arrival k, ap (λ (o : ℕ). free o next) o ∙ h k)

@@ -1,15 +1,14 @@
 // What the instruction at pc will write, decided by reading alone.
 ghost use mathlib.Core.Path.{_≡_};
-ghost use mathlib.Core.Bool.{_&&_};
 ghost use Prim.Native.Nat.{_<_, _≤_};
-ghost use lib.Dec.{eqb};
 ghost use lib.ListN.{getD};
 ghost use Rattle.common.specs.Answers as answer;
 ghost use Rattle.common.specs.Words.{opOf, decode};
 ghost use Rattle.common.specs.Instructions.{plus};
 ghost use Rattle.moves.specs.Moves as is;
+use rights::arrival;
 
-// A register to write (16: none) and its value; a place to store to (4294967295: none) and its word; then pc, the owner and the flag.
+// A register to write (16: none) and its value; a place to store to (4294967295: none) and its word; then pc, and how it comes there.
 pub struct Move {
     pub answer: u32,
     pub rd: u32,
@@ -17,14 +16,16 @@ pub struct Move {
     pub place: u32,
     pub word: u32,
     pub pc: u32,
-    pub owner: u32,
-    pub jumped: bool,
+    pub arrival: u64,
 }
 
 // No register, and no place: N is never above 2,048.
 const NO_REGISTER: u32 = 16;
 
 const NOWHERE: u32 = 4294967295;
+
+// What an arrival has more after a jump.
+const JUMPED: u64 = 4294967296;
 
 // Nothing is written; every move tells the instruction's owner.
 fn stop(answer: u32, owner: u32) -> Move
@@ -37,8 +38,7 @@ fn stop(answer: u32, owner: u32) -> Move
         place: NOWHERE,
         word: 0,
         pc: 0,
-        owner,
-        jumped: false,
+        arrival: owner as u64,
     }
 }
 
@@ -52,8 +52,7 @@ fn puts(owner: u32, pc: u32, rd: u32, value: u32) -> Move
         place: NOWHERE,
         word: 0,
         pc,
-        owner,
-        jumped: false,
+        arrival: owner as u64,
     }
 }
 
@@ -73,8 +72,7 @@ fn stores(owner: u32, pc: u32, place: u32, word: u32) -> Move
         place,
         word,
         pc,
-        owner,
-        jumped: false,
+        arrival: owner as u64,
     }
 }
 
@@ -88,8 +86,7 @@ fn leaps(owner: u32, pc: u32, rd: u32, value: u32) -> Move
         place: NOWHERE,
         word: 0,
         pc,
-        owner,
-        jumped: true,
+        arrival: owner as u64 + JUMPED,
     }
 }
 
@@ -126,21 +123,22 @@ fn store_move(owner: u32, on: u32, x: u32, y: u32, n: u32, owners: &[u32], write
     stores(owner, on, x, y)
 }
 
-fn bnz_move(owner: u32, on: u32, pc: u32, low: u32, x: u32) -> Move
-    requires { ⌜ low < 65536 ⌝ }
-    ensures { λ r. ⌜ r ≡ is.bnzMove owner on pc low x ⌝ }
-{
-    if x == 0 {
-        return goes(owner, on);
-    }
-    goes(owner, arithmetic::branch_target(pc, low))
-}
-
 // pc + 1.
 fn after(pc: u32) -> u32
     ensures { λ r. ⌜ r ≡ plus pc 1 ⌝ }
 {
     std::num::wrapping_add_u32(pc, 1)
+}
+
+// pc + 1 is made here, where it is wanted: then the compiler jumps, and what comes next need not wait for x.
+fn bnz_move(owner: u32, pc: u32, low: u32, x: u32) -> Move
+    requires { ⌜ low < 65536 ⌝ }
+    ensures { λ r. ⌜ r ≡ is.bnzMove owner (plus pc 1) pc low x ⌝ }
+{
+    if x == 0 {
+        return goes(owner, after(pc));
+    }
+    goes(owner, arithmetic::branch_target(pc, low))
 }
 
 // 3.
@@ -211,7 +209,7 @@ fn other(
             none(owner)
         },
         12 => if instructions::fits(word, 12) {
-            bnz_move(owner, after(pc), pc, i.low, reg(regs, i.a))
+            bnz_move(owner, pc, i.low, reg(regs, i.a))
         } else {
             none(owner)
         },
@@ -254,24 +252,12 @@ fn execute(
     }
 }
 
-// Whether an owner is the compartment that ran last, and that one is known to pass 15.
-fn is_home(settled: bool, owner: u32, prev: u32) -> bool
-    ensures { λ r. ⌜ r ≡ (settled && eqb owner prev) ⌝ }
-{
-    if !settled {
-        return false;
-    }
-    owner == prev
-}
-
-// At a memory word: 15, 4, 3, then the instruction. Where the caller knows that prev passes 15 (settled), a word of prev's own
-// is asked neither for 15 nor for 4.
+// At a memory word: 15, 4, 3, then the instruction. A word of the compartment that just ran, and came here without a jump, is asked
+// neither for 15 nor for 4.
 pub fn decide(
     regs: &[u32; 16],
     pc: u32,
-    prev: u32,
-    settled: bool,
-    jumped: bool,
+    arrival: u64,
     next: u32,
     n: u32,
     words: &[u32],
@@ -279,15 +265,20 @@ pub fn decide(
     jumpers: &[u64],
     writers: &[u64],
 ) -> Move
-    ensures { λ r. ⌜ r ≡ is.moveFrom settled (now (regs .entry)) pc prev jumped next n (now (words .entry)) (now (owners .entry)) (now (jumpers .entry)) (now (writers .entry)) ⌝ }
+    ensures { λ r. ⌜ r ≡ is.moveFrom arrival (now (regs .entry)) pc next n (now (words .entry)) (now (owners .entry)) (now (jumpers .entry)) (now (writers .entry)) ⌝ }
 {
     let owner = memory::word_at(owners, pc);
-    if !is_home(settled, owner, prev) {
+    if !arrival::is_home(arrival, owner) {
         if !rights::is_free(owner, next) {
             return stop(answers::BAD_OWNER, owner);
         }
+        let prev = arrival::prev_of(arrival);
         if owner != prev {
-            if !rights::jumped_in(prev, jumped, memory::set_at(jumpers, pc)) {
+            if !rights::jumped_in(
+                prev,
+                arrival::jumped_of(arrival),
+                memory::set_at(jumpers, pc),
+            ) {
                 return stop(answers::NO_ARRIVAL, owner);
             }
         }

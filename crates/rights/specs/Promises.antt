@@ -5,6 +5,7 @@ use Prim.Native.Nat.{ℕ}
 use Rattle.common.specs.Promise.{once, itself}
 use Rattle.rules.specs.Compartments.{member}
 use Rattle.rights.specs.Rights.{free, mayStoreAt}
+use Rattle.rights.specs.Arrivals.{prevOf, jumpedOf, unasked, home}
 
 pub is-free-once : (owner next : ℕ) (r q : Bool) → r ≡ free owner next → q ≡ free owner next → r ≡ q
 is-free-once owner next r q = once itself (free owner next) r q
@@ -14,3 +15,15 @@ jumped-in-once prev jumped jumpers r q = once itself (jumped && member jumpers p
 
 pub may-store-once : (owner target writers : ℕ) (r q : Bool) → r ≡ mayStoreAt owner target writers → q ≡ mayStoreAt owner target writers → r ≡ q
 may-store-once owner target writers r q = once itself (mayStoreAt owner target writers) r q
+
+pub unasked-once : (prev : ℕ) (jumped : Bool) (r q : ℕ) → r ≡ unasked prev jumped → q ≡ unasked prev jumped → r ≡ q
+unasked-once prev jumped r q = once itself (unasked prev jumped) r q
+
+pub prev-of-once : (arrival r q : ℕ) → r ≡ prevOf arrival → q ≡ prevOf arrival → r ≡ q
+prev-of-once arrival r q = once itself (prevOf arrival) r q
+
+pub jumped-of-once : (arrival : ℕ) (r q : Bool) → r ≡ jumpedOf arrival → q ≡ jumpedOf arrival → r ≡ q
+jumped-of-once arrival r q = once itself (jumpedOf arrival) r q
+
+pub is-home-once : (arrival owner : ℕ) (r q : Bool) → r ≡ home arrival owner → q ≡ home arrival owner → r ≡ q
+is-home-once arrival owner r q = once itself (home arrival owner) r q

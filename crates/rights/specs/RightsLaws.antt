@@ -6,6 +6,7 @@ use Prim.Native.Nat.{ℕ, _≤_, _<_}
 use native.Mathlib.Omega.{arith}
 use borrow.Author.Tests.{le-leb, lt-leb, leb-true, leb-false}
 use lib.Dec.{leb}
+use Rattle.common.specs.Tests.{clash}
 use Rattle.common.specs.Services.{serviceCount, isServiceNumber}
 use Rattle.rights.specs.Rights.{free}
 
@@ -25,3 +26,11 @@ module _ (owner next : ℕ) where
       go : (t : Bool) → leb owner 3 ≡ t → leb 4 owner ≡ not t
       go true f = lt-leb 4 owner (let k = leb-true owner 3 f in omega arith)
       go false f = le-leb 4 owner (leb-false owner 3 f)
+
+  pub free-below : free owner next ≡ true → owner < next
+  unfolding free
+  free-below h = go (leb next owner) refl
+    where
+      go : (t : Bool) → leb next owner ≡ t → owner < next
+      go true e = clash h (simp (e, or-true))
+      go false e = leb-false next owner e

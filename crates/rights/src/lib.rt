@@ -1,4 +1,6 @@
 // Who may run, arrive and store: the checks 15, 4 and 7, over numbers alone.
+pub mod arrival;
+
 ghost use mathlib.Core.Path.{_≡_};
 ghost use mathlib.Core.Bool.{_&&_};
 ghost use Rattle.rules.specs.Compartments.{member};

@@ -1,7 +1,8 @@
--- All five are made, and one is picked.
+-- `arith`, arm by arm.
+use mathlib.Core.Path.{refl}
 use native.Mathlib.Omega.{arith}
 use Rattle.arithmetic.proofs.Product.{product-fits}
-use Rattle.arithmetic.specs.PickedLaws.{is-picked}
+use Rattle.arithmetic.specs.ResultLaws.{is-sum, is-difference, is-product, is-comparison}
 use borrow.Author.Needs.{needs}
 use Rattle.arithmetic.proofs.arith.Statement.{statement}
 use Rattle.arithmetic.proofs.arith.Tie as tie
@@ -12,11 +13,11 @@ wrapping-add-u32-requires c κs = search needs
 wrapping-sub-u32-requires : tie.Need-wrapping-sub-u32-requires
 wrapping-sub-u32-requires c κs = search needs
 
-mul-product : tie.Need-mul-product
-mul-product c = record { fits = product-fits 32 (omega arith) (omega arith) }
+mul-result : tie.Need-mul-result
+mul-result c = record { fits = product-fits 32 (omega arith) (omega arith) }
 
-cast-product : tie.Need-cast-product
-cast-product c = search needs
+cast-result : tie.Need-cast-result
+cast-result c = search needs
 
 pick-requires : tie.Need-pick-requires
 pick-requires c κs = search needs
@@ -27,17 +28,17 @@ pick-requires-2 c κs = search needs
 pick-requires-3 : tie.Need-pick-requires-3
 pick-requires-3 c κs = search needs
 
-pick-requires-4 : tie.Need-pick-requires-4
-pick-requires-4 c κs = search needs
-
-pick-requires-5 : tie.Need-pick-requires-5
-pick-requires-5 c κs = search needs
-
-pick-requires-6 : tie.Need-pick-requires-6
-pick-requires-6 c κs = search needs
-
 returns : tie.Need-returns
-returns c = simp (c .pick6 .ensures, c .before .pick5 .ensures, c .before .before .pick4 .ensures, c .before .before .before .pick3 .ensures) (is-picked _ _ _ (omega arith) (omega arith) _ (c .before .before .before .before .before .before .before .wrapping-add-u32 .ensures) _ (omega arith) (c .before .before .before .before .before .before .wrapping-sub-u32 .ensures) _ (c .before .before .before .before .before .pick .ensures) _ (c .before .before .before .before .pick2 .ensures))
+returns c = is-sum _ _ _ _ (c .before .match .keys1) (c .wrapping-add-u32 .ensures)
+
+returns-2 : tie.Need-returns-2
+returns-2 c = is-difference _ _ _ _ (c .before .match .keys2) (omega arith) (omega arith) (omega arith) (c .wrapping-sub-u32 .ensures)
+
+returns-3 : tie.Need-returns-3
+returns-3 c = is-product _ _ _ _ (c .match .keys3) refl
+
+returns-4 : tie.Need-returns-4
+returns-4 c = is-comparison _ _ _ _ (c .before .before .before .match .rest .0 .0 .1) (c .before .before .before .match .rest .0 .1) (c .before .before .before .match .rest .1) _ (c .before .before .pick .ensures) _ (c .before .pick2 .ensures) (c .pick3 .ensures)
 
 pub arith-spec : {M : Type 1} → statement M
 arith-spec =
@@ -45,12 +46,12 @@ arith-spec =
     (tie.spec
     wrapping-add-u32-requires
     wrapping-sub-u32-requires
-    mul-product
-    cast-product
+    mul-result
+    cast-result
     pick-requires
     pick-requires-2
     pick-requires-3
-    pick-requires-4
-    pick-requires-5
-    pick-requires-6
-    returns)
+    returns
+    returns-2
+    returns-3
+    returns-4)

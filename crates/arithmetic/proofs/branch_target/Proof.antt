@@ -1,6 +1,6 @@
 -- `branch_target`: the sum, less 65536 where the offset is negative.
 use native.Mathlib.Omega.{arith}
-use Rattle.arithmetic.specs.PickedLaws.{is-target}
+use Rattle.arithmetic.specs.ResultLaws.{is-target}
 use borrow.Author.Needs.{needs}
 use Rattle.arithmetic.proofs.branch_target.Statement.{statement}
 use Rattle.arithmetic.proofs.branch_target.Tie as tie

@@ -1,18 +1,21 @@
 -- `bnz_move`, case by case.
 use mathlib.Core.Path.{_∙_}
 use borrow.Author.Tests.{eq-eqb, ne-eqb}
-use Rattle.arithmetic.specs.Picked.{is-branch}
+use Rattle.arithmetic.specs.Targets.{is-branch}
 use Rattle.moves.specs.Moves.{bnzMove}
 use borrow.Author.Needs.{needs}
 use Rattle.moves.proofs.bnz_move.Statement.{statement}
 use Rattle.moves.proofs.bnz_move.Tie as tie
+
+after-requires : tie.Need-after-requires
+after-requires c κs = search needs
 
 goes-requires : tie.Need-goes-requires
 goes-requires c κs = search needs
 
 returns : tie.Need-returns
 unfolding bnzMove
-returns c = simp (c .goes .ensures, eq-eqb _ _ (c .before .if1 .taken))
+returns c = simp (c .goes .ensures, c .before .after .ensures, eq-eqb _ _ (c .before .before .if1 .taken))
 
 branch-target-requires : tie.Need-branch-target-requires
 branch-target-requires c κs = search needs
@@ -26,4 +29,4 @@ returns-2 c = simp (c .goes2 .ensures, c .before .branch-target .ensures ∙ is-
 
 pub bnz-move-spec : {M : Type 1} → statement M
 bnz-move-spec =
-    tie.close (tie.spec goes-requires returns branch-target-requires goes-requires-2 returns-2)
+    tie.close (tie.spec after-requires goes-requires returns branch-target-requires goes-requires-2 returns-2)

@@ -111,14 +111,11 @@ none-requires-7 c κs = search needs
 fits-requires-8 : tie.Need-fits-requires-8
 fits-requires-8 c κs = search needs
 
-after-requires-7 : tie.Need-after-requires-7
-after-requires-7 c κs = search needs
-
 reg-requires-7 : tie.Need-reg-requires-7
-reg-requires-7 c κs = law.a-small (c .before .before .before .before .before .before .before .before .args .word) (c .before .before .before .before .fields .result) (c .before .before .before .before .fields .ensures)
+reg-requires-7 c κs = law.a-small (c .before .before .before .before .before .before .before .args .word) (c .before .before .before .fields .result) (c .before .before .before .fields .ensures)
 
 bnz-move-requires : tie.Need-bnz-move-requires
-bnz-move-requires c κs = law.low-small (c .before .before .before .before .before .before .before .before .before .args .word) (c .before .before .before .before .before .fields .result) (c .before .before .before .before .before .fields .ensures)
+bnz-move-requires c κs = law.low-small (c .before .before .before .before .before .before .before .before .args .word) (c .before .before .before .before .fields .result) (c .before .before .before .before .fields .ensures)
 
 none-requires-8 : tie.Need-none-requires-8
 none-requires-8 c κs = search needs
@@ -178,7 +175,7 @@ returns-14 : tie.Need-returns-14
 returns-14 c = law.none (c .before .before .before .before .before .before .before .before .args .word) (c .before .before .before .before .fields .result) (c .before .before .before .before .fields .ensures) 11 (c .before .before .before .match .keys7) (omega arith) _ (c .before .before .fits8 .ensures) _ _ _ _ _ _ _ _ (c .before .if7 .left) (c .none7 .ensures)
 
 returns-15 : tie.Need-returns-15
-returns-15 c = law.fits (c .before .before .before .before .before .before .before .before .before .before .args .word) (c .before .before .before .before .before .before .fields .result) (c .before .before .before .before .before .before .fields .ensures) 12 (c .before .before .before .before .before .match .keys8) (omega arith) _ (c .before .before .before .before .fits9 .ensures) _ _ _ _ _ _ _ _ (c .before .before .before .if8 .taken) (law.bnz (decoded (c .before .before .before .before .before .before .fields .result)) _ _ _ _ _ _ _ _ (c .before .before .before .before .before .match .keys8) _ (c .before .before .after7 .ensures) _ (c .before .reg7 .ensures) (c .bnz-move .ensures))
+returns-15 c = law.fits (c .before .before .before .before .before .before .before .before .before .args .word) (c .before .before .before .before .before .fields .result) (c .before .before .before .before .before .fields .ensures) 12 (c .before .before .before .before .match .keys8) (omega arith) _ (c .before .before .before .fits9 .ensures) _ _ _ _ _ _ _ _ (c .before .before .if8 .taken) (law.bnz (decoded (c .before .before .before .before .before .fields .result)) _ _ _ _ _ _ _ _ (c .before .before .before .before .match .keys8) _ (c .before .reg7 .ensures) (c .bnz-move .ensures))
 
 returns-16 : tie.Need-returns-16
 returns-16 c = law.none (c .before .before .before .before .before .before .before .before .args .word) (c .before .before .before .before .fields .result) (c .before .before .before .before .fields .ensures) 12 (c .before .before .before .match .keys8) (omega arith) _ (c .before .before .fits9 .ensures) _ _ _ _ _ _ _ _ (c .before .if8 .left) (c .none8 .ensures)
@@ -231,7 +228,6 @@ other-spec =
     leaps-requires-2
     none-requires-7
     fits-requires-8
-    after-requires-7
     reg-requires-7
     bnz-move-requires
     none-requires-8

@@ -1,11 +1,13 @@
--- The two results in the form in which the code comes to them.
+-- The results in the form in which the code comes to them.
 use mathlib.Core.Path.{_≡_, refl, _∙_}
 use mathlib.Core.Bool.{Bool, true, false, cond}
+use mathlib.Core.Logic.{_≢_}
 use Prim.Native.Nat.{ℕ, _+_, _*_, _%_, _^_, _<_}
 use native.Mathlib.Omega.{arith}
+use borrow.Author.Tests.{ne-eqb}
 use lib.Dec.{ltb, leb, eqb}
-use Rattle.common.specs.Instructions.{minus, bit}
-use Rattle.arithmetic.specs.Picked.{picked, takenOff, branchTarget}
+use Rattle.common.specs.Instructions.{minus, bit, arithmetic}
+use Rattle.arithmetic.specs.Targets.{takenOff, branchTarget}
 
 -- what the library's difference says is the difference modulo 2^32
 difference : (x y r : ℕ) → x < 2 ^ 32 → y < 2 ^ 32 → r < 2 ^ 32 → (r + y) % 2 ^ 32 ≡ x → r ≡ minus x y
@@ -15,13 +17,27 @@ is-bit : (t : Bool) (r : ℕ) → r ≡ cond t 1 0 → r ≡ bit t
 is-bit true r e = e
 is-bit false r e = e
 
--- all five are made, and one is picked
-pub is-picked : (op x y : ℕ) → x < 2 ^ 32 → y < 2 ^ 32 → (sum : ℕ) → sum ≡ (x + y) % 2 ^ 32 → (less : ℕ) → less < 2 ^ 32 → (less + y) % 2 ^ 32 ≡ x
-    → (equal : ℕ) → equal ≡ cond (eqb x y) 1 0 → (ordered : ℕ) → ordered ≡ cond (leb x y) 1 0
-    → cond (ltb op 5) (cond (ltb op 4) sum less) (cond (ltb op 6) (x * y % 4294967296) (cond (ltb op 7) equal ordered)) ≡ picked op x y
-unfolding picked
-is-picked op x y hx hy sum es less hl el equal ee ordered eo =
-    simp (es, difference x y less hx hy hl el, is-bit (eqb x y) equal ee, is-bit (leb x y) ordered eo)
+module _ (op x y r : ℕ) where
+  abbrev Is : Type 0
+  Is = r ≡ arithmetic op x y
+
+  pub is-sum : op ≡ 3 → r ≡ (x + y) % 2 ^ 32 → Is
+  unfolding arithmetic
+  is-sum h e = simp (h, e)
+
+  pub is-difference : op ≡ 4 → x < 2 ^ 32 → y < 2 ^ 32 → r < 2 ^ 32 → (r + y) % 2 ^ 32 ≡ x → Is
+  unfolding arithmetic
+  is-difference h hx hy hr e = simp h (difference x y r hx hy hr e)
+
+  pub is-product : op ≡ 5 → r ≡ x * y % 4294967296 → Is
+  unfolding arithmetic
+  is-product h e = simp (h, e)
+
+  pub is-comparison : op ≢ 3 → op ≢ 4 → op ≢ 5 → (equal : ℕ) → equal ≡ cond (eqb x y) 1 0 → (ordered : ℕ) → ordered ≡ cond (leb x y) 1 0
+      → r ≡ cond (eqb op 6) equal ordered → Is
+  unfolding arithmetic
+  is-comparison a b c equal ee ordered eo e =
+      simp (ne-eqb op 3 a, ne-eqb op 4 b, ne-eqb op 5 c, e, is-bit (eqb x y) equal ee, is-bit (leb x y) ordered eo)
 
 pub is-target : (pc low sum : ℕ) → sum ≡ (pc + low) % 2 ^ 32 → (back : ℕ) → back ≡ cond (ltb low 32768) 0 65536 → (r : ℕ) → r < 2 ^ 32 → (r + back) % 2 ^ 32 ≡ sum
     → r ≡ branchTarget pc low
