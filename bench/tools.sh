@@ -50,8 +50,8 @@ find_library() {
     fi
 }
 
-# Has every function of both sides start on a page of its own. An emulator pays for jumps from page to page, and the
-# times would else hang on where the linker happens to put a loop.
+# Has every function of both sides start on a page of its own. An emulator pays for jumps from page to page, a processor
+# for where a loop begins in a line of its cache; the times would else hang on where the linker happens to put a loop.
 align_pages() { # NAME
     local aligned=$root/target/$1/libhost.a
     mkdir -p "$root/target/$1"
