@@ -13,6 +13,11 @@
 
 enum { PLACES = 2048, IMAGE_MOST = 8272 };
 
+/* Both sides' memories begin a page, and the image stands half a page from where the words do: a processor may take an address
+   for another that agrees with it below the page, and would then slow one side down by chance. */
+#define PAGE _Alignas(4096)
+#define HALF_A_PAGE _Alignas(2048)
+
 /* A processor record with the memories that are lent beside it, and what the last call told. */
 typedef struct machine {
     kl_processor cpu;
@@ -40,7 +45,7 @@ typedef struct workload {
     const char *name;
     uint32_t budget;
     uint32_t answer; /* what each run must answer, so that a program that goes astray is noticed */
-    uint8_t image[IMAGE_MOST];
+    HALF_A_PAGE uint8_t image[IMAGE_MOST];
     size_t image_len;
     machine start;
 } workload;
@@ -137,7 +142,8 @@ static double least(double a, double b) { return a < b ? a : b; }
 /* Times both sides in turn, the first of each round in turn too, and keeps the least of each. */
 static times measure(const workload *w, double ms, int rounds)
 {
-    static machine c, ours;
+    static PAGE machine c;
+    static PAGE machine ours;
     memset(&c, 0, sizeof c);
     memset(&ours, 0, sizeof ours);
     fprintf(stderr, "bench: %s: calibrating\n", w->name);
@@ -164,7 +170,7 @@ static const workload *make(const char *name, const uint32_t *program, size_t le
                       uint32_t answer)
 {
     static uint32_t words[PLACES];
-    static workload w;
+    static PAGE workload w;
     const uint32_t regs[16] = {0};
     memset(words, 0, sizeof words);
     memcpy(words, program, length * sizeof words[0]);

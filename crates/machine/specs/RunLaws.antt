@@ -25,7 +25,7 @@ use Rattle.rights.specs.Arrivals.{prevOf, jumpedOf, unasked, unasked-far, unask
 use Rattle.moves.specs.Moves.{moveFrom, home-move}
 use Rattle.memory.specs.Places.{putReg, putWord}
 use Rattle.moves.specs.Applied.{moveAt, move-stops, move-runs, move-free}
-use Rattle.service.specs.Served.{at, Serving, serving}
+use Rattle.service.specs.Served.{stateFrom, Serving, serving}
 use Rattle.service.specs.ServiceLaws.{backWith, serving-stops, serving-runs}
 use Rattle.form.specs.Form.{formOf, formed-by}
 
@@ -179,10 +179,10 @@ module _ (s₀ s : State) (budget count : ℕ) (g : Going s₀ s budget count) w
 
 module _ (regs : List ℕ) (n pc next : ℕ) (services words owners jumpers writers : List ℕ) (prev : ℕ) (jumped : Bool) (arrival : ℕ) where
   abbrev told : State
-  told = at regs n pc prev jumped next services words owners jumpers writers
+  told = stateFrom regs n pc prev jumped next services words owners jumpers writers
 
   abbrev kept : State
-  kept = at regs n pc (prevOf arrival) (jumpedOf arrival) next services words owners jumpers writers
+  kept = stateFrom regs n pc (prevOf arrival) (jumpedOf arrival) next services words owners jumpers writers
 
   -- not asked for 15 yet
   pub arrived : prev < 4294967296 → arrival ≡ unasked prev jumped → (s₀ : State) (budget count : ℕ) → Going s₀ told budget count → Going s₀ kept budget count
@@ -196,8 +196,8 @@ module _ (regs : List ℕ) (n pc next : ℕ) (services words owners jumpers writ
 module _ (s₀ : State) (budget n next : ℕ) (services owners jumpers writers : List ℕ) where
   pub left : (words regs : List ℕ) (pc arrival count : ℕ) (words₁ regs₁ : List ℕ) (pc₁ arrival₁ count₁ : ℕ)
       → words ≡ words₁ → count ≡ count₁ → pc ≡ pc₁ → arrival ≡ arrival₁ → regs ≡ regs₁
-      → Going s₀ (at regs₁ n pc₁ (prevOf arrival₁) (jumpedOf arrival₁) next services words₁ owners jumpers writers) budget count₁ → budget ≤ count₁
-      → Going s₀ (at regs n pc (prevOf arrival) (jumpedOf arrival) next services words owners jumpers writers) budget count × (budget ≤ count)
+      → Going s₀ (stateFrom regs₁ n pc₁ (prevOf arrival₁) (jumpedOf arrival₁) next services words₁ owners jumpers writers) budget count₁ → budget ≤ count₁
+      → Going s₀ (stateFrom regs n pc (prevOf arrival) (jumpedOf arrival) next services words owners jumpers writers) budget count × (budget ≤ count)
   left words regs pc arrival count words₁ regs₁ pc₁ arrival₁ count₁ ew ec ep ea er g h =
       (simp (ew, ec, ep, ea, er) g, omega arith)
 

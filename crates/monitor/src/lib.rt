@@ -3,10 +3,6 @@ ghost use mathlib.Core.Path.{_≡_};
 ghost use mathlib.Core.List.{[]};
 ghost use Rattle.rules.specs.Checks.{isolateVerdict};
 ghost use Rattle.monitor.specs.Outcomes.{called, isolating, isolatingOf, adding, addingOf};
-// Where the services sit, as the crates above name it.
-pub use address_sets::ADD_JUMP_TARGET;
-pub use address_sets::ADD_STORE_TARGET;
-pub use address_sets::ISOLATE;
 use memory::word_at;
 
 // Compartment numbers are below this.

@@ -24,9 +24,6 @@ const NO_REGISTER: u32 = 16;
 
 const NOWHERE: u32 = 4294967295;
 
-// What an arrival has more after a jump.
-const JUMPED: u64 = 4294967296;
-
 // Nothing is written; every move tells the instruction's owner.
 fn stop(answer: u32, owner: u32) -> Move
     ensures { λ r. ⌜ r ≡ is.stop answer owner ⌝ }
@@ -86,7 +83,7 @@ fn leaps(owner: u32, pc: u32, rd: u32, value: u32) -> Move
         place: NOWHERE,
         word: 0,
         pc,
-        arrival: owner as u64 + JUMPED,
+        arrival: owner as u64 + arrival::JUMPED,
     }
 }
 

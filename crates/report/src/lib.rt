@@ -8,11 +8,11 @@ ghost use Rattle.common.specs.Instructions.{bit};
 ghost use Rattle.rules.specs.Counts.{ownedCount, jumpCount, storeCount, widest};
 ghost use Rattle.machine.specs.Views.{stateOf};
 ghost use Rattle.report.specs.CountLaws.{placesOwned, placesWith, outside, three};
+use address_sets::ADD_JUMP_TARGET;
+use address_sets::ADD_STORE_TARGET;
+use address_sets::ISOLATE;
 use compartments::Set;
 use machine::Processor;
-use monitor::ADD_JUMP_TARGET;
-use monitor::ADD_STORE_TARGET;
-use monitor::ISOLATE;
 
 // How many places are looked at.
 fn least(n: u32, length: usize) -> usize

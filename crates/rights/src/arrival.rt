@@ -3,9 +3,9 @@
 ghost use mathlib.Core.Path.{_≡_};
 ghost use Rattle.rights.specs.Arrivals as is;
 
-const JUMPED: u64 = 4294967296;
+pub const JUMPED: u64 = 4294967296;
 
-const UNASKED: u64 = 8589934592;
+pub const UNASKED: u64 = 8589934592;
 
 // The arrival of a pc number that has not been asked for 15: at a run's begin, and at a service.
 pub fn unasked(prev: u32, jumped: bool) -> u64

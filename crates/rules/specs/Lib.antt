@@ -18,6 +18,7 @@ pub mod Meaning
 pub mod Stays
 pub mod Refusals
 pub mod Additive
+pub mod Counted
 pub mod Cascades
 pub mod Conditions
 pub mod Numbers

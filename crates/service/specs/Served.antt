@@ -13,8 +13,8 @@ use Rattle.monitor.specs.Outcomes.{called, Isolating, isolating, Adding, adding
 use Rattle.service.specs.declared.Served.{Served}
 
 -- the processor's numbers and the lent memories, as a state
-abbrev pub at : List ℕ → ℕ → ℕ → ℕ → Bool → ℕ → List ℕ → List ℕ → List ℕ → List ℕ → List ℕ → State
-at regs n pc prev jumped next services words owners jumpers writers =
+abbrev pub stateFrom : List ℕ → ℕ → ℕ → ℕ → Bool → ℕ → List ℕ → List ℕ → List ℕ → List ℕ → List ℕ → State
+stateFrom regs n pc prev jumped next services words owners jumpers writers =
     record {
       cpu = record { n = n; regs = regs; pc = pc; prev = prev; jumped = jumped; next = next; services = services };
       words = words;

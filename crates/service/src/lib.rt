@@ -1,7 +1,7 @@
 // A step at a service: 2, 4, the service's own checks, then its work on the tags.
 ghost use mathlib.Core.Path.{_≡_};
 ghost use Rattle.monitor.specs.Outcomes.{called, isolatingOf, addingOf};
-ghost use Rattle.service.specs.Served.{at, servedOf, serving, grown, isolatedBy, addedBy};
+ghost use Rattle.service.specs.Served.{stateFrom, servedOf, serving, grown, isolatedBy, addedBy};
 use monitor::Isolated;
 
 // The answer; and where it is 0, the service's number, the first unused compartment number and the sets I of the three services.
@@ -88,7 +88,7 @@ pub fn serve(
     jumpers: &mut [u64],
     writers: &mut [u64],
 ) -> Served
-    ensures { λ r. ⌜ servedOf r (now (owners .exit)) (now (jumpers .exit)) (now (writers .exit)) ≡ serving (at (now (regs .entry)) n pc prev jumped next services (now (words .entry)) (now (owners .entry)) (now (jumpers .entry)) (now (writers .entry))) ⌝ }
+    ensures { λ r. ⌜ servedOf r (now (owners .exit)) (now (jumpers .exit)) (now (writers .exit)) ≡ serving (stateFrom (now (regs .entry)) n pc prev jumped next services (now (words .entry)) (now (owners .entry)) (now (jumpers .entry)) (now (writers .entry))) ⌝ }
 {
     match pc {
         4096 => {

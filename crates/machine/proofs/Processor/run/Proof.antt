@@ -5,14 +5,14 @@ use mathlib.Core.Path.{refl, _∙_}
 use mathlib.Core.Logic.{⊎-elim}
 use borrow.Author.Needs.{needs}
 use Rattle.rights.specs.Arrivals.{prevOf, jumpedOf}
-use Rattle.service.specs.Served.{at}
+use Rattle.service.specs.Served.{stateFrom}
 use Rattle.machine.specs.RunLaws.{Going, Reached, Home, unasked-home, nothing, unformed, starts, all-used, word-stops, word-turns, word-home, service-stops, service-turns, arrived, called, left}
 use Rattle.machine.proofs.Processor.run.Statement.{statement}
 use Rattle.machine.proofs.Processor.run.Tie as tie
 
 abbrev Inv-loop2 : tie.InvT-loop2
 Inv-loop2 words₀ owners jumpers writers budget count₀ n pc₀ prev next jumped arrival₀ regs₀ services words count pc arrival regs =
-    Reached (at regs₀ n pc₀ (prevOf arrival₀) (jumpedOf arrival₀) next services words₀ owners jumpers writers) (at regs n pc (prevOf arrival) (jumpedOf arrival) next services words owners jumpers writers) budget count₀ count × Home arrival next × (count₀ ≤ count)
+    Reached (stateFrom regs₀ n pc₀ (prevOf arrival₀) (jumpedOf arrival₀) next services words₀ owners jumpers writers) (stateFrom regs n pc (prevOf arrival) (jumpedOf arrival) next services words owners jumpers writers) budget count₀ count × Home arrival next × (count₀ ≤ count)
 
 abbrev μ-loop2 : tie.MeasureT-loop2
 μ-loop2 words₀ owners jumpers writers budget count₀ n pc₀ prev next jumped arrival₀ regs₀ services words count pc arrival regs =
@@ -20,7 +20,7 @@ abbrev μ-loop2 : tie.MeasureT-loop2
 
 abbrev Inv-loop : tie.InvT-loop
 Inv-loop words₀ owners₀ jumpers₀ writers₀ budget count₀ n pc₀ prev next₀ jumped arrival₀ regs₀ services₀ words owners jumpers writers count pc next arrival regs services =
-    Going (at regs₀ n pc₀ prev jumped next₀ services₀ words₀ owners₀ jumpers₀ writers₀) (at regs n pc (prevOf arrival) (jumpedOf arrival) next services words owners jumpers writers) budget count × (budget < 4294967296) × Home arrival next
+    Going (stateFrom regs₀ n pc₀ prev jumped next₀ services₀ words₀ owners₀ jumpers₀ writers₀) (stateFrom regs n pc (prevOf arrival) (jumpedOf arrival) next services words owners jumpers writers) budget count × (budget < 4294967296) × Home arrival next
 
 abbrev μ-loop : tie.MeasureT-loop
 μ-loop words₀ owners₀ jumpers₀ writers₀ budget count₀ n pc₀ prev next₀ jumped arrival₀ regs₀ services₀ words owners jumpers writers count pc next arrival regs services =
