@@ -1,13 +1,19 @@
 /* The checker of the host test: makes a call on both sides, compares every field and every place, keeps counts, and
    reports the first difference in full. */
+#define _POSIX_C_SOURCE 199309L
 #include "compare.h"
 
 #include <inttypes.h>
 #include <stdio.h>
 #include <stdlib.h>
 #include <string.h>
+#include <time.h>
 
 enum { ANSWERS = 32, LISTED = 40, COUNTED = 8 }; /* COUNTED: one in so many states has its counts compared */
+
+/* No step may take longer, also in an emulator: it is some hundred times what 1,023 pairs over 2,048 words take, and less than
+   a walk over 2^32 addresses. */
+enum { STEP_LIMIT_MS = 1000 };
 #define ALONE SIZE_MAX /* the place of a value that is not one of many */
 
 static struct {
@@ -252,10 +258,37 @@ static void settle(const char *call, const state *before, const state *ours, con
 
 static state before;
 
+static double slowest_ms;
+
+double slowest_step(void) { return slowest_ms; }
+
+static double now_ms(void)
+{
+    struct timespec t;
+    clock_gettime(CLOCK_PROCESS_CPUTIME_ID, &t);
+    return (double)t.tv_sec * 1e3 + (double)t.tv_nsec / 1e6;
+}
+
+/* A step of our side, within the limit. */
+static uint32_t timed_step(state *ours)
+{
+    const double began = now_ms();
+    const uint32_t answer = kl_step(&ours->cpu, LENT(ours));
+    const double took = now_ms() - began;
+    if (took > slowest_ms) slowest_ms = took;
+    if (took > STEP_LIMIT_MS) {
+        begin_report("kl_step");
+        printf("  it took %.0f ms, and no step may take more than %d\n", took, STEP_LIMIT_MS);
+        show_state(&before);
+        end_report();
+    }
+    return answer;
+}
+
 uint32_t check_step(state *ours, state *sheet)
 {
     copy_state(&before, sheet);
-    const told a = {kl_step(&ours->cpu, LENT(ours)), 0};
+    const told a = {timed_step(ours), 0};
     const told b = {sheet_step(&sheet->cpu, LENT(sheet)), 0};
     settle("kl_step", &before, ours, sheet, a, b, b.answer != 0, b.answer != 0);
     return b.answer;

@@ -64,6 +64,7 @@ int main(int argc, char **argv)
     }
     printf("compare: seed %" PRIu64 ", %" PRIu64 " rounds of each kind\n", seed, count);
     for (size_t i = 0; i < sizeof KINDS / sizeof KINDS[0]; i++) cases += compare_kind(&KINDS[i], seed, count);
+    printf("compare: the slowest step took %.1f ms\n", slowest_step());
     printf("compare: %" PRIu64 " cases, 0 differences\n", cases);
     return 0;
 }

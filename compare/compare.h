@@ -54,7 +54,8 @@ void noise(state *s, size_t longest);             /* fills record and memories; 
 void lend(state *s, size_t length);               /* lends all four memories at this length */
 
 /* ---- check.c: calls both sides, compares all they left, reports a difference and ends; gives what they told ---- */
-uint32_t check_step(state *ours, state *sheet);
+uint32_t check_step(state *ours, state *sheet);   /* our side within a limit of time */
+double slowest_step(void);                        /* of our side so far, in milliseconds */
 told check_run(state *ours, state *sheet, uint32_t budget);
 uint32_t check_load(state *ours, state *sheet, const uint8_t *bytes, size_t length);
 void check_decode(uint32_t word);
