@@ -1,6 +1,6 @@
 /* Times the verified library beside the plain C of sheet.c: the same programs, the same calls, one process.
    bench [MILLISECONDS [ROUNDS]]: how long one timing of the C side should take, and how many timings are made
-   of each side; the least counts. */
+   of each side; the least counts. Many short ones see through a machine that others use too. */
 #define _POSIX_C_SOURCE 199309L
 #include "kldemuvash.h"
 #include "sheet.h"
@@ -244,8 +244,8 @@ static double row(const workload *w, double ms, int rounds)
 
 int main(int argc, char **argv)
 {
-    const double ms = argc > 1 ? atof(argv[1]) : 300;
-    const int rounds = argc > 2 ? atoi(argv[2]) : 7;
+    const double ms = argc > 1 ? atof(argv[1]) : 100;
+    const int rounds = argc > 2 ? atoi(argv[2]) : 21;
     if (argc > 3 || ms < 1 || rounds < 1) {
         fprintf(stderr, "usage: bench [MILLISECONDS [ROUNDS]]\n");
         return 2;
