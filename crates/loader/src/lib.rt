@@ -8,6 +8,7 @@ ghost use Rattle.rules.specs.Images.{load, fresh};
 ghost use Rattle.machine.specs.Views.{cpuOf};
 ghost use Rattle.loader.specs.Loading.{imageFor};
 ghost use Rattle.loader.specs.Promises.{loadedOf, lent};
+use crate::filling::fill_owners;
 use crate::filling::fill_sets;
 use crate::filling::fill_words;
 use compartments::Set;
@@ -92,8 +93,10 @@ pub fn load(
     let services = Set::of_services();
     let none = Set::none();
     let n = image.size as usize;
-    fill_words(words, owners, bytes, n, MAIN);
-    fill_sets(jumpers, writers, n, services.0, none.0);
+    fill_words(words, bytes, n);
+    fill_owners(owners, n, MAIN);
+    fill_sets(jumpers, n, services.0);
+    fill_sets(writers, n, none.0);
     let regs = image.regs;
     let cpu = fresh(image.size, regs, image.entry);
     Loaded {

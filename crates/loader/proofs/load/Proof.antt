@@ -17,12 +17,16 @@ cast-n : tie.Need-cast-n
 cast-n c = search needs
 
 fill-words-requires : tie.Need-fill-words-requires
-fill-words-requires c κs = let g = c .before .before .before .before .before .before .before .before .before .before .before .args in
-    let r = ready (g .bytes .now) (g .words .now) (g .owners .now) (g .jumpers .now) (g .writers .now) _ (c .before .before .before .before .before .image-for .ensures) in (r .in-words, r .in-owners, r .in-bytes)
+fill-words-requires c κs = let r = ready (c .before .before .before .before .before .before .before .before .before .before .args .bytes .now) (c .before .before .before .before .before .before .before .before .before .before .args .words .now) (c .before .before .before .before .before .before .before .before .before .before .args .owners .now) (c .before .before .before .before .before .before .before .before .before .before .args .jumpers .now) (c .before .before .before .before .before .before .before .before .before .before .args .writers .now) _ (c .before .before .before .before .image-for .ensures) in (r .in-words, r .in-bytes)
+
+fill-owners-requires : tie.Need-fill-owners-requires
+fill-owners-requires c κs = ready (c .before .before .before .before .before .before .before .before .before .before .before .before .before .before .args .bytes .now) (c .before .before .before .before .before .before .before .before .before .before .before .before .before .before .args .words .now) (c .before .before .before .before .before .before .before .before .before .before .before .before .before .before .args .owners .now) (c .before .before .before .before .before .before .before .before .before .before .before .before .before .before .args .jumpers .now) (c .before .before .before .before .before .before .before .before .before .before .before .before .before .before .args .writers .now) _ (c .before .before .before .before .before .before .before .before .image-for .ensures) .in-owners
 
 fill-sets-requires : tie.Need-fill-sets-requires
-fill-sets-requires c κs = let g = c .before .before .before .before .before .before .before .before .before .before .before .before .before .before .before .before .before .before .args in
-    let r = ready (g .bytes .now) (g .words .now) (g .owners .now) (g .jumpers .now) (g .writers .now) _ (c .before .before .before .before .before .before .before .before .before .before .before .before .image-for .ensures) in (r .in-jumpers, r .in-writers)
+fill-sets-requires c κs = ready (c .before .before .before .before .before .before .before .before .before .before .before .before .before .before .before .before .before .before .args .bytes .now) (c .before .before .before .before .before .before .before .before .before .before .before .before .before .before .before .before .before .before .args .words .now) (c .before .before .before .before .before .before .before .before .before .before .before .before .before .before .before .before .before .before .args .owners .now) (c .before .before .before .before .before .before .before .before .before .before .before .before .before .before .before .before .before .before .args .jumpers .now) (c .before .before .before .before .before .before .before .before .before .before .before .before .before .before .before .before .before .before .args .writers .now) _ (c .before .before .before .before .before .before .before .before .before .before .before .before .image-for .ensures) .in-jumpers
+
+fill-sets-requires-2 : tie.Need-fill-sets-requires-2
+fill-sets-requires-2 c κs = ready (c .before .before .before .before .before .before .before .before .before .before .before .before .before .before .before .before .before .before .before .before .before .before .args .bytes .now) (c .before .before .before .before .before .before .before .before .before .before .before .before .before .before .before .before .before .before .before .before .before .before .args .words .now) (c .before .before .before .before .before .before .before .before .before .before .before .before .before .before .before .before .before .before .before .before .before .before .args .owners .now) (c .before .before .before .before .before .before .before .before .before .before .before .before .before .before .before .before .before .before .before .before .before .before .args .jumpers .now) (c .before .before .before .before .before .before .before .before .before .before .before .before .before .before .before .before .before .before .before .before .before .before .args .writers .now) _ (c .before .before .before .before .before .before .before .before .before .before .before .before .before .before .before .before .image-for .ensures) .in-writers
 
 fresh-requires : tie.Need-fresh-requires
 fresh-requires c κs = search needs
@@ -40,10 +44,7 @@ same-length-4 : tie.Need-same-length-4
 same-length-4 c = search needs
 
 returns : tie.Need-returns
-returns c = let g = c .before .before .before .before .before .before .before .before .before .before .before .before .before .before .before .before .before .before .before .before .before .before .before .before .before .args in
-    let w = c .before .before .before .before .before .before .before .before .before .before .before .before .before .fill-words .ensures in
-    let s = c .before .before .before .before .before .before .fill-sets .ensures in
-    loads (g .bytes .now) (g .words .now) (g .owners .now) (g .jumpers .now) (g .writers .now) _ (c .before .before .before .before .before .before .before .before .before .before .before .before .before .before .before .before .before .before .before .image-for .ensures) _ _ _ _ _ _ (w .0) (w .1) (c .before .before .before .before .before .before .before .before .before .before .before .before .before .before .before .before .before .before .of-services .ensures) (s .0) (c .before .before .before .before .before .before .before .before .before .before .before .before .before .before .before .before .before .none .ensures) (s .1) _ (c .fresh .ensures)
+returns c = loads (c .before .before .before .before .before .before .before .before .before .before .before .before .before .before .before .before .before .before .before .before .before .before .before .before .before .before .before .args .bytes .now) (c .before .before .before .before .before .before .before .before .before .before .before .before .before .before .before .before .before .before .before .before .before .before .before .before .before .before .before .args .words .now) (c .before .before .before .before .before .before .before .before .before .before .before .before .before .before .before .before .before .before .before .before .before .before .before .before .before .before .before .args .owners .now) (c .before .before .before .before .before .before .before .before .before .before .before .before .before .before .before .before .before .before .before .before .before .before .before .before .before .before .before .args .jumpers .now) (c .before .before .before .before .before .before .before .before .before .before .before .before .before .before .before .before .before .before .before .before .before .before .before .before .before .before .before .args .writers .now) _ (c .before .before .before .before .before .before .before .before .before .before .before .before .before .before .before .before .before .before .before .before .before .image-for .ensures) _ _ _ _ _ _ (c .before .before .before .before .before .before .before .before .before .before .before .before .before .before .before .before .fill-words .ensures) (c .before .before .before .before .before .before .before .before .before .before .before .before .fill-owners .ensures) (c .before .before .before .before .before .before .before .before .before .before .before .before .before .before .before .before .before .before .before .before .of-services .ensures) (c .before .before .before .before .before .before .before .before .fill-sets .ensures) (c .before .before .before .before .before .before .before .before .before .before .before .before .before .before .before .before .before .before .before .none .ensures) (c .before .before .before .before .fill-sets2 .ensures) _ (c .fresh .ensures)
 
 pub load-spec : {M : Type 1} → statement M
 load-spec =
@@ -54,7 +55,9 @@ load-spec =
     none-requires
     cast-n
     fill-words-requires
+    fill-owners-requires
     fill-sets-requires
+    fill-sets-requires-2
     fresh-requires
     same-length
     same-length-2

@@ -1,24 +1,24 @@
--- The words read so far, and the owner as often, stand over what the memories held.
+-- The words read so far stand over what the memory held.
 use native.Mathlib.Omega.{arith}
 use mathlib.Core.Path.{_≡_, refl, ap, _∙_}
 use mathlib.Core.List.{List}
 use Prim.Native.Nat.{ℕ, _+_, _-_, _*_, _≤_}
-use lib.ListN.{length, set, replicate, length-set}
+use lib.ListN.{length, set, length-set}
 use Rattle.rules.specs.Images.{field, fields, over}
-use Rattle.images.specs.Filling.{field-of, fields-more, replicate-more}
+use Rattle.images.specs.Filling.{field-of, fields-more}
 use borrow.Author.Needs.{needs}
 use Rattle.loader.proofs.filling.fill_words.Statement.{statement}
 use Rattle.loader.proofs.filling.fill_words.Tie as tie
 
 abbrev Inv-loop : tie.InvT-loop
-Inv-loop words₀ owners₀ bytes n owner i₀ words owners i = (i ≤ n) × (length words ≡ length words₀) × (words ≡ over (fields bytes 4 i) words₀) × (length owners ≡ length owners₀) × (owners ≡ over (replicate i owner) owners₀)
+Inv-loop words₀ bytes n i₀ words i = (i ≤ n) × (length words ≡ length words₀) × (words ≡ over (fields bytes 4 i) words₀)
 
 abbrev μ-loop : tie.MeasureT-loop
-μ-loop words₀ owners₀ bytes n owner i₀ words owners i = n - i
+μ-loop words₀ bytes n i₀ words i = n - i
 
 loop-holds : tie.Need-loop-holds Inv-loop μ-loop
 unfolding fields
-loop-holds c = (omega arith, refl, refl, refl, refl)
+loop-holds c = (omega arith, refl, refl)
 
 mul-at : tie.Need-mul-at Inv-loop μ-loop
 mul-at c = omega arith
@@ -56,12 +56,6 @@ mul-words c = omega arith
 slice-write-words : tie.Need-slice-write-words Inv-loop μ-loop
 slice-write-words c = omega arith
 
-mul-owners : tie.Need-mul-owners Inv-loop μ-loop
-mul-owners c = omega arith
-
-slice-write-owners : tie.Need-slice-write-owners Inv-loop μ-loop
-slice-write-owners c = omega arith
-
 add-i : tie.Need-add-i Inv-loop μ-loop
 add-i c = omega arith
 
@@ -69,29 +63,21 @@ loop-less : tie.Need-loop-less Inv-loop μ-loop
 loop-less c = omega arith
 
 loop-again : tie.Need-loop-again Inv-loop μ-loop
-loop-again c = let g = c .before .before .before .before .before .before .before .before .before .before .args in
+loop-again c = let g = c .before .before .before .before .before .before .before .before .before .args in
     let x = c .before .before .before .before .before .before .loop in (
       omega arith,
       simp length-set (x .inv .1),
       ap (set (x .words) (x .i)) (c .number .ensures ∙ field-of (g .bytes .now) (4 + 4 * x .i)) ∙ ap (λ (m : List ℕ). set m (x .i) (field (g .bytes .now) (4 + 4 * x .i))) (x .inv .2)
           ∙ fields-more (g .bytes .now) (g .words .now) 4 (x .i) (omega arith),
-      simp length-set (x .inv .3),
-      ap (λ (m : List ℕ). set m (x .i) (g .owner)) (x .inv .4) ∙ replicate-more (g .owner) (g .owners .now) (x .i) (omega arith),
     )
 
 same-length : tie.Need-same-length Inv-loop μ-loop
 same-length c = omega arith
 
-same-length-2 : tie.Need-same-length-2 Inv-loop μ-loop
-same-length-2 c = omega arith
-
 returns : tie.Need-returns Inv-loop μ-loop
-returns c = let g = c .before .before .before .before .before .args in
+returns c = let g = c .before .before .before .before .args in
     let x = c .before .loop in
-    let e : x .i ≡ g .n = omega arith in (
-      x .inv .2 ∙ ap (λ (k : ℕ). over (fields (g .bytes .now) 4 k) (g .words .now)) e,
-      x .inv .4 ∙ ap (λ (k : ℕ). over (replicate k (g .owner)) (g .owners .now)) e,
-    )
+    let e : x .i ≡ g .n = omega arith in x .inv .2 ∙ ap (λ (k : ℕ). over (fields (g .bytes .now) 4 k) (g .words .now)) e
 
 pub fill-words-spec : {M : Type 1} → statement M
 fill-words-spec =
@@ -112,11 +98,8 @@ fill-words-spec =
     number-requires
     mul-words
     slice-write-words
-    mul-owners
-    slice-write-owners
     add-i
     loop-less
     loop-again
     same-length
-    same-length-2
     returns)
