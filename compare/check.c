@@ -11,9 +11,9 @@
 
 enum { ANSWERS = 32, LISTED = 40, COUNTED = 8 }; /* COUNTED: one in so many states has its counts compared */
 
-/* No step may take longer, also in an emulator: it is some hundred times what 1,023 pairs over 2,048 words take, and less than
-   a walk over 2^32 addresses. */
-enum { STEP_LIMIT_MS = 1000 };
+/* No step may take longer. 1,023 pairs over 2,048 words took 2 ms, and 15 in an emulator; a library that walks all of
+   (0, 4294967295) before it answers took 3,500. */
+enum { STEP_LIMIT_MS = 250 };
 #define ALONE SIZE_MAX /* the place of a value that is not one of many */
 
 static struct {

@@ -11,8 +11,8 @@ fn pick(t: bool, x: u32, y: u32) -> u32
     if t { x } else { y }
 }
 
-// Add, Sub, Mul, Eq and Leq: opcodes 3 to 7. A jump to each of the first three, and one of the two comparisons picked, is what
-// costs least.
+// Add, Sub, Mul, Eq and Leq: opcodes 3 to 7. A jump to each of the first three, and one of the two comparisons picked, cost little
+// on a processor and in an emulator.
 pub fn arith(op: u32, x: u32, y: u32) -> u32
     ensures { λ r. ⌜ r ≡ arithmetic op x y ⌝ }
 {

@@ -1,11 +1,9 @@
 -- The sheet's promises: the lines marked P, each number on its condition, a run's budget and count, places from N on, one outcome for every public call but the counts, and the four idle programs.
-use mathlib.Core.Path.{_≡_, refl, sym, ap, _∙_}
+use mathlib.Core.Path.{_≡_}
 use mathlib.Core.Bool.{Bool, true, false, cond, _&&_, not}
 use mathlib.Core.List.{List, [], _∷_}
 use mathlib.Core.Logic.{_↔_}
-use Prim.Native.Nat.{ℕ, zero, suc, _+_, _*_, _≤_}
-use native.Mathlib.Omega.{arith}
-use borrow.Author.Tests.{eqb-true, eqb-false}
+use Prim.Native.Nat.{ℕ, suc, _+_, _*_, _≤_}
 use lib.Dec.{ltb, leb, eqb}
 use lib.ListN.{getD, length, take, drop}
 use Rattle.common.specs.Opcodes as is
@@ -17,16 +15,14 @@ use Rattle.common.specs.AddressSets.{isEmpty, inSet}
 use Rattle.rules.specs.State.{State}
 use Rattle.rules.specs.Checks.{arrives, setA, goodSets, setsWithin, returns}
 use Rattle.rules.specs.Step.{step}
-use Rattle.rules.specs.Run.{Ran, oneMore, run}
+use Rattle.rules.specs.Run.{Ran, run}
 use Rattle.rules.specs.Images.{field, whole, sizeIn, registersAt, registersIn, entryAt, entryIn, load, imageBytes, write}
-use Rattle.rules.specs.StepLaws.{run-goes-on, run-ends}
 use Rattle.rules.specs.Lines.{At, TagsAsLoaded, Called, table, All}
 use Rattle.rules.specs.LineProofs.{lines}
 use Rattle.rules.specs.Cascades.{on, Exactly, NoneHolds}
 use Rattle.rules.specs.Conditions as of
 use Rattle.rules.specs.Numbers as numbers
 use Rattle.rules.specs.ImageNumbers as image-numbers
-use Rattle.rules.specs.Stays as stays
 use Rattle.rules.specs.Additive as additive
 use Rattle.rules.specs.Counted as counts
 use Rattle.rules.specs.Grows as grows

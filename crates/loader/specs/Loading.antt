@@ -2,18 +2,18 @@
 use mathlib.Core.Path.{_≡_, refl, sym, ap, _∙_}
 use mathlib.Core.Bool.{Bool, true, false, cond, _&&_, not}
 use mathlib.Core.List.{List}
-use Prim.Native.Nat.{ℕ, _-_, _*_, _≤_}
+use Prim.Native.Nat.{ℕ, _+_, _-_, _*_, _≤_, _<_}
 use native.Mathlib.Omega.{arith}
 use borrow.Author.Tests.{eqb-true, not-true, not-false}
 use lib.Dec.{eqb}
-use lib.ListN.{length, replicate}
+use lib.ListN.{length, set, replicate, length-set}
 use Rattle.common.specs.Answers as answer
 use Rattle.rules.specs.Compartments.{empty, services}
 use Rattle.rules.specs.State.{Processor, State}
 use Rattle.rules.specs.Checks.{sameLengths}
 use Rattle.rules.specs.Images.{fields, sizeIn, entryIn, regsOf, loadVerdict, fresh, blank, over, loaded, notLoaded, load}
 use Rattle.images.specs.Accepted.{load-accepted}
-use Rattle.images.specs.Filling.{length-fields}
+use Rattle.images.specs.Filling.{length-fields, replicate-more}
 use Rattle.reader.specs.declared.Image.{Image}
 use Rattle.reader.specs.Promises.{imageOf}
 use Rattle.loader.specs.Promises.{lent}
@@ -34,6 +34,17 @@ module _ (bytes : List ℕ) (words owners jumpers writers : ℕ) (same : Bool) (
   pub lengths-agree : not same ≡ false → (image : Image) → image ≡ imageOf words bytes → image ≡ imageFor bytes words owners jumpers writers
   unfolding imageFor
   lengths-agree h image i = i ∙ simp (sym e ∙ not-false same h)
+
+-- ---- one number in the first places of a memory, i of n so far
+abbrev pub Filling : ℕ → ℕ → List ℕ → List ℕ → ℕ → Type 0
+Filling one n old now i = (i ≤ n) × (length now ≡ length old) × (now ≡ over (replicate i one) old)
+
+module _ (one n : ℕ) (old now : List ℕ) (i : ℕ) (f : Filling one n old now i) where
+  pub fills-one : i < n → n ≤ length old → Filling one n old (set now i one) (i + 1)
+  fills-one h l = (omega arith, simp length-set (f .1), ap (λ (m : List ℕ). set m i one) (f .2) ∙ replicate-more one old i (omega arith))
+
+  pub filled : n ≤ i → now ≡ over (replicate n one) old
+  filled h = let a = f .0 in let e : i ≡ n = omega arith in f .2 ∙ ap (λ (k : ℕ). over (replicate k one) old) e
 
 -- what the fills of n places ask
 pub record Ready (bytes words owners jumpers writers : List ℕ) (n : ℕ) : Type 0 where

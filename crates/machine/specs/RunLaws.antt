@@ -10,7 +10,6 @@ use borrow.Author.Tests.{eqb-true, not-true, not-false}
 use lib.Dec.{eqb}
 use lib.ListN.{length}
 use Rattle.common.specs.Answers as answer
-use Rattle.common.specs.Tests.{clash}
 use Rattle.rules.specs.State.{State}
 use Rattle.rules.specs.Checks.{formed, verdict}
 use Rattle.rules.specs.Step.{Stepped, step}

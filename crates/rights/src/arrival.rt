@@ -5,7 +5,7 @@ ghost use Rattle.rights.specs.Arrivals as is;
 
 pub const JUMPED: u64 = 4294967296;
 
-pub const UNASKED: u64 = 8589934592;
+const UNASKED: u64 = 8589934592;
 
 // The arrival of a pc number that has not been asked for 15: at a run's begin, and at a service.
 pub fn unasked(prev: u32, jumped: bool) -> u64
@@ -29,7 +29,7 @@ pub fn jumped_of(arrival: u64) -> bool
     arrival / JUMPED % 2 == 1
 }
 
-// Whether a word's owner is the compartment that just ran there without a jump, which passed 15.
+// Whether a word's owner is the compartment that just ran, and came here without a jump: it passed 15.
 pub fn is_home(arrival: u64, owner: u32) -> bool
     ensures { λ r. ⌜ r ≡ is.home arrival owner ⌝ }
 {

@@ -1,52 +1,34 @@
 -- The set stands so far over what the memory held.
 use native.Mathlib.Omega.{arith}
-use mathlib.Core.Path.{_≡_, refl, ap, _∙_}
-use mathlib.Core.List.{List}
-use Prim.Native.Nat.{ℕ, _-_, _≤_}
-use lib.ListN.{length, set, replicate, length-set}
-use Rattle.rules.specs.Images.{over}
-use Rattle.images.specs.Filling.{replicate-more}
+use mathlib.Core.Path.{refl}
+use Prim.Native.Nat.{_-_}
+use Rattle.loader.specs.Loading.{Filling, fills-one, filled}
 use Rattle.loader.proofs.filling.fill_sets.Statement.{statement}
 use Rattle.loader.proofs.filling.fill_sets.Tie as tie
 
 abbrev Inv-loop : tie.InvT-loop
-Inv-loop sets₀ n one i₀ sets i = (i ≤ n) × (length sets ≡ length sets₀) × (sets ≡ over (replicate i one) sets₀)
+Inv-loop sets₀ n one i₀ sets i = Filling one n sets₀ sets i
 
 abbrev μ-loop : tie.MeasureT-loop
 μ-loop sets₀ n one i₀ sets i = n - i
 
-loop-holds : tie.Need-loop-holds Inv-loop μ-loop
-loop-holds c = (omega arith, refl, refl)
-
-mul-sets : tie.Need-mul-sets Inv-loop μ-loop
-mul-sets c = omega arith
-
-slice-write-sets : tie.Need-slice-write-sets Inv-loop μ-loop
-slice-write-sets c = omega arith
-
-add-i : tie.Need-add-i Inv-loop μ-loop
-add-i c = omega arith
-
-loop-less : tie.Need-loop-less Inv-loop μ-loop
-loop-less c = omega arith
-
 loop-again : tie.Need-loop-again Inv-loop μ-loop
-loop-again c = let g = c .before .before .args in
-    let x = c .before .loop in (
-      omega arith,
-      simp length-set (x .inv .1),
-      ap (λ (m : List ℕ). set m (x .i) (g .set)) (x .inv .2) ∙ replicate-more (g .set) (g .sets .now) (x .i) (omega arith),
-    )
-
-same-length : tie.Need-same-length Inv-loop μ-loop
-same-length c = omega arith
+loop-again c = fills-one _ _ _ _ _ (c .before .loop .inv) (c .loop-test .taken) (c .before .before .pre)
 
 returns : tie.Need-returns Inv-loop μ-loop
-returns c = let g = c .before .before .args in
-    let x = c .before .loop in
-    let e : x .i ≡ g .n = omega arith in x .inv .2 ∙ ap (λ (k : ℕ). over (replicate k (g .set)) (g .sets .now)) e
+returns c = filled _ _ _ _ _ (c .before .loop .inv) (c .loop-test .left)
 
 pub fill-sets-spec : {M : Type 1} → statement M
 fill-sets-spec =
     tie.close
-    (tie.spec Inv-loop μ-loop loop-holds mul-sets slice-write-sets add-i loop-less loop-again same-length returns)
+    (tie.spec
+    Inv-loop
+    μ-loop
+    (λ c. (omega arith, refl, refl))
+    (λ c. omega arith)
+    (λ c. omega arith)
+    (λ c. omega arith)
+    (λ c. omega arith)
+    loop-again
+    (λ c. omega arith)
+    returns)
