@@ -55,3 +55,16 @@ pub const SHORT_MEMORY: u32 = 28;
 pub const NO_WORD: u32 = 30;
 
 pub const SHORT_BUFFER: u32 = 31;
+
+// The assembler, of a line; it has BAD_SIZE and SHORT_BUFFER too.
+pub const NO_LINE: u32 = 50;
+
+pub const UNKNOWN_LABEL: u32 = 51;
+
+pub const LABEL_TWICE: u32 = 52;
+
+pub const VALUE_OUTSIDE: u32 = 53;
+
+pub const TOO_DEEP: u32 = 54;
+
+pub const MANY_WORDS: u32 = 55;

@@ -114,3 +114,29 @@ no-word = 30
 -- the out buffer is too short
 abbrev pub short-buffer : ℕ
 short-buffer = 31
+
+-- ---- the assembler, of a line; it has bad-size and short-buffer too
+
+-- the line is not in the grammar
+abbrev pub no-line : ℕ
+no-line = 50
+
+-- a label that no line defines
+abbrev pub unknown-label : ℕ
+unknown-label = 51
+
+-- a label that a line before defines
+abbrev pub label-twice : ℕ
+label-twice = 52
+
+-- a value outside its bounds
+abbrev pub value-outside : ℕ
+value-outside = 53
+
+-- a seventeenth open bracket
+abbrev pub too-deep : ℕ
+too-deep = 54
+
+-- more than 2,048 words
+abbrev pub many-words : ℕ
+many-words = 55
