@@ -14,7 +14,7 @@ use Rattle.rules.specs.Images.{section, listed, imageBytes, over, writeVerdict,
 use Rattle.images.specs.Accepted.{passed}
 use Rattle.images.specs.Listed.{listed-take}
 use Rattle.images.specs.Sections.{length-section, length-image}
-use Rattle.writer.specs.Stores.{sets-then, sets-over}
+use Rattle.images.specs.Stores.{sets-then, sets-over}
 
 -- ---- check by check
 
