@@ -1,0 +1,7 @@
+-- ---- laws of writing a listing, and what the disassembler promises
+pub mod Promises
+pub mod Stores
+pub mod Names
+pub mod Operands
+pub mod Lines
+pub mod Verdicts
