@@ -92,6 +92,22 @@ uint32_t kl_encode(uint32_t op, uint32_t a, uint32_t b, uint32_t low, uint32_t *
 uint32_t kl_write(const uint32_t *words, size_t words_len, const uint32_t regs[16], uint32_t entry,
                   uint8_t *out, size_t out_len, size_t *length);
 
+/* Assembles a source (docs/GRAMMAR.md) into the image of its words, with entry 0 and no registers, at the front of `out`.
+   Answers 0 with the number of bytes written in *length and *line 0; `out` beyond them keeps its contents.
+   Answers, of the first line at fault, which is told in *line, counted from 1: 50 the line is not in the grammar, 51 it uses a
+   label that no line defines, 52 it defines a label that a line before defines, 53 a value is outside its bounds, 54 a
+   seventeenth bracket is opened, 55 it holds a word after the 2,048th. Else, with *line 0: 21 there is no word, 31 `out` is too
+   short. Then *length is 0 and `out` is as it was. Any bytes are a text; 8,272 bytes of `out` are enough for every image.
+   The call uses about 100 KB of the stack. */
+uint32_t kl_assemble(const uint8_t *text, size_t text_len, uint8_t *out, size_t out_len, uint64_t *line, size_t *length);
+
+/* Writes a source of exactly `words_len` words to the front of `out`: a line for each, an instruction as the sheet spells it, any
+   other word as 0x and eight digits. kl_assemble gives the same words back.
+   Answers 0 with the number of bytes written in *length; `out` beyond them keeps its contents.
+   Answers, the first that applies: 21 the number of words is not 1 to 2,048, 31 `out` is too short; then *length is 0 and `out` is
+   as it was. 16 bytes a word are enough. */
+uint32_t kl_disassemble(const uint32_t *words, size_t words_len, uint8_t *out, size_t out_len, size_t *length);
+
 /* Counts the addresses that compartment `number` owns: the places whose owner it is, and its service (4096
    is 1's, 4097 is 2's, 4098 is 3's). In each of the four counts a place is looked at where it is below n and
    below the length lent, and a service where n does not reach its address, so that each address counts once. */

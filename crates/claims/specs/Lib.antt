@@ -4,3 +4,4 @@ pub mod Promises
 pub mod Inner
 pub mod Counts
 pub mod Code
+pub mod Sources

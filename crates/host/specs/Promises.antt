@@ -9,6 +9,8 @@ use Rattle.rules.specs.Step as step
 use Rattle.rules.specs.Run as run
 use Rattle.rules.specs.Images as images
 use Rattle.rules.specs.Counts.{ownedCount, jumpCount, storeCount, widest}
+use Rattle.sources.specs.Meaning as sources
+use Rattle.sources.specs.Listing.{disassemble}
 use Rattle.machine.specs.Views.{stateOf, processorOf}
 use Rattle.machine.specs.declared.Processor.{Processor}
 use Rattle.loader.specs.Promises.{lent}
@@ -42,6 +44,9 @@ encodedBy answer word = record { answer = answer; word = word }
 
 abbrev pub writtenBy : ℕ → ℕ → List ℕ → images.Written
 writtenBy answer length out = record { answer = answer; length = length; out = out }
+
+abbrev pub assembledBy : ℕ → ℕ → ℕ → List ℕ → sources.Assembled
+assembledBy answer line length out = record { answer = answer; line = line; length = length; out = out }
 
 -- ---- the calls that advance the record
 
@@ -144,6 +149,27 @@ pub write-once : (words regs : List ℕ) (entry : ℕ) (out : List ℕ) (o p : W
     → write-view .seen p ≡ images.write words regs entry out
     → o ≡ p
 write-once words regs entry out o p = once write-view (images.write words regs entry out) o p
+
+pub disassemble-once : (words out : List ℕ) (o p : WriteOutcome) → write-view .seen o ≡ disassemble words out → write-view .seen p ≡ disassemble words out → o ≡ p
+disassemble-once words out o p = once write-view (disassemble words out) o p
+
+-- all that an assembling hands back or may change
+pub record AssembleOutcome : Type 0 where
+  pub answer : ℕ
+  pub line : ℕ
+  pub length : ℕ
+  pub out : List ℕ
+
+abbrev assemble-view : View AssembleOutcome sources.Assembled
+assemble-view =
+    record {
+      seen = λ o. assembledBy (o .answer) (o .line) (o .length) (o .out);
+      back = λ m. record { answer = m .answer; line = m .line; length = m .length; out = m .out };
+      whole = λ o. refl;
+    }
+
+pub assemble-once : (text out : List ℕ) (o p : AssembleOutcome) → assemble-view .seen o ≡ sources.assemble text out → assemble-view .seen p ≡ sources.assemble text out → o ≡ p
+assemble-once text out o p = once assemble-view (sources.assemble text out) o p
 
 -- ---- the counts, which change nothing: each promises what report's does, of the record lent
 

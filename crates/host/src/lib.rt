@@ -6,9 +6,11 @@ ghost use Rattle.rules.specs.Step.{step};
 ghost use Rattle.rules.specs.Run.{run};
 ghost use Rattle.rules.specs.Images.{load, write};
 ghost use Rattle.rules.specs.Counts.{ownedCount, jumpCount, storeCount, widest};
+ghost use Rattle.sources.specs.Meaning.{assemble};
+ghost use Rattle.sources.specs.Listing.{disassemble};
 ghost use Rattle.machine.specs.Views.{stateOf};
 ghost use Rattle.loader.specs.Promises.{lent};
-ghost use Rattle.host.specs.Promises.{loadedBy, steppedBy, ranBy, decodedBy, laidOut, encodedBy, writtenBy};
+ghost use Rattle.host.specs.Promises.{loadedBy, steppedBy, ranBy, decodedBy, laidOut, encodedBy, writtenBy, assembledBy};
 use machine::Processor;
 
 // Loads an image over whatever the record held; a refused load leaves the blank record.
@@ -97,6 +99,32 @@ pub extern "C" fn kl_write(
     let w = writer::write(words, regs, entry, out);
     *length = w.length;
     w.answer
+}
+
+// Assembles a source to the front of a buffer; line is the line at fault, and length how many bytes the image takes.
+#[no_mangle]
+pub extern "C" fn kl_assemble(
+    text: &[u8],
+    out: &mut [u8],
+    line: &mut u64,
+    length: &mut usize,
+) -> u32
+    ensures { λ r. ⌜ assembledBy r (now (line .exit)) (now (length .exit)) (now (out .exit)) ≡ assemble (now (text .entry)) (now (out .entry)) ⌝ }
+{
+    let a = assembler::assemble(text, out);
+    *line = a.line;
+    *length = a.length;
+    a.answer
+}
+
+// Writes a source of words to the front of a buffer; length is how many bytes it takes.
+#[no_mangle]
+pub extern "C" fn kl_disassemble(words: &[u32], out: &mut [u8], length: &mut usize) -> u32
+    ensures { λ r. ⌜ writtenBy r (now (length .exit)) (now (out .exit)) ≡ disassemble (now (words .entry)) (now (out .entry)) ⌝ }
+{
+    let d = disassembler::disassemble(words, out);
+    *length = d.length;
+    d.answer
 }
 
 // The addresses that a compartment owns, services counted.
