@@ -4,11 +4,11 @@
 
 say() { printf '%s: %s\n' "$me" "$*" >&2; }
 
-# What is missing, and how to get it; status 2.
+# What is missing, and how to get it; status 4.
 missing() {
     say "$1"
     say "$2"
-    exit 2
+    exit 4
 }
 
 # Sets `kit` to the kit's folder, which is the one above the guide that `rt doc` names.

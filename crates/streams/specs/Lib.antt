@@ -1,0 +1,2 @@
+-- ---- what the contracts' counts need
+pub mod Counted
