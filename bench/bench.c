@@ -2,6 +2,7 @@
    bench [MILLISECONDS [ROUNDS]]: how long one timing of the C side should take, and how many timings are made
    of each side; the least counts. Many short ones see through a machine that others use too. */
 #define _POSIX_C_SOURCE 199309L
+#include "bench.h"
 #include "kldemuvash.h"
 #include "sheet.h"
 #include "words.h"
@@ -56,13 +57,13 @@ typedef struct times {
     double c_ms, ours_ms;
 } times;
 
-static void fail(const char *name, const char *what)
+void fail(const char *name, const char *what)
 {
     fprintf(stderr, "bench: FAILED: %s: %s\n", name, what);
     exit(1);
 }
 
-static double now_ms(void)
+double now_ms(void)
 {
     struct timespec t;
     clock_gettime(CLOCK_PROCESS_CPUTIME_ID, &t);
@@ -137,7 +138,7 @@ static void check_same(const workload *w, const machine *c, const machine *ours)
     if (memcmp(c->writers, ours->writers, sizeof c->writers) != 0) fail(w->name, "the writers differ");
 }
 
-static double least(double a, double b) { return a < b ? a : b; }
+double least(double a, double b) { return a < b ? a : b; }
 
 /* Times both sides in turn, the first of each round in turn too, and keeps the least of each. */
 static times measure(const workload *w, double ms, int rounds)
@@ -248,14 +249,15 @@ int main(int argc, char **argv)
     const int rounds = argc > 2 ? atoi(argv[2]) : 21;
     if (argc > 3 || ms < 1 || rounds < 1) {
         fprintf(stderr, "usage: bench [MILLISECONDS [ROUNDS]]\n");
-        return 2;
+        return 4;
     }
     printf("%-30s %12s %10s %10s %8s\n", "workload", "steps", "C ms", "ours ms", "ratio");
     double ratio = row(arithmetic(), ms, rounds);
     ratio = least(ratio, row(load_and_store(), ms, rounds));
     ratio = least(ratio, row(services(), ms, rounds));
     row(loading(), ms, rounds);
-    printf("(the last row counts loads, not steps, and is outside the ratio)\n");
+    printf("(the last row counts loads, not steps; it and what follows are outside the ratio)\n");
+    sources_row(ms, rounds);
     printf("ratio %.2f\n", ratio);
     return 0;
 }
