@@ -1,6 +1,6 @@
 -- A set of addresses read from the first n words, and what being within a set of addresses says.
 use mathlib.Core.Path.{_≡_, refl, ap, _∙_, subst}
-use mathlib.Core.Bool.{Bool, true, false, _&&_}
+use mathlib.Core.Bool.{Bool, true, false, cond, _&&_, _||_, not}
 use mathlib.Core.List.{List, [], _∷_}
 use Prim.Native.Nat.{ℕ, zero, suc, _+_, _-_, _*_, _≤_, _<_}
 use native.Mathlib.Omega.{arith}
@@ -38,22 +38,26 @@ module _ (ws : List ℕ) (n : ℕ) where
       let hk : q + 1 + 2 * getD ws q 0 ≤ n = leb-true (q + 1 + 2 * getD ws q 0) n (t .1) in
       ap (pairsAt (take n ws) (q + 1)) (getD-take n ws q 0 hq) ∙ pairs-take (q + 1) (getD ws q 0) hk
 
-  pub good-take : (q : ℕ) → goodSet (take n ws) n q ≡ goodSet ws n q
+  count-take : (q : ℕ) → inside ws n q ≡ true → getD (take n ws) q 0 ≡ getD ws q 0
+  unfolding inside
+  count-take q h = getD-take n ws q 0 (ltb-true q n (both (ltb q n) _ h .0))
+
+  pub good-take : (t : ℕ → Bool) (q : ℕ) → goodSet (take n ws) n t q ≡ goodSet ws n t q
   unfolding goodSet
-  good-take q = go (inside ws n q) refl
+  good-take t q = go (inside ws n q) refl
     where
-      go : (b : Bool) → inside ws n q ≡ b → (inside (take n ws) n q && ordered (setAt (take n ws) q)) ≡ (inside ws n q && ordered (setAt ws q))
-      go true e = simp (inside-take q, set-take q e)
+      go : (b : Bool) → inside ws n q ≡ b → goodSet (take n ws) n t q ≡ goodSet ws n t q
+      go true e = simp (inside-take q, set-take q e, count-take q e)
       go false e = simp (inside-take q, e)
 
   -- a set that passes 8 is read below n alone
-  pub good-set-take : (q : ℕ) → goodSet ws n q ≡ true → setAt (take n ws) q ≡ setAt ws q
+  pub good-set-take : (t : ℕ → Bool) (q : ℕ) → goodSet ws n t q ≡ true → setAt (take n ws) q ≡ setAt ws q
   unfolding goodSet
-  good-set-take q h = set-take q (both (inside ws n q) (ordered (setAt ws q)) h .0)
+  good-set-take t q h = set-take q (both (inside ws n q) (ordered (setAt ws q)) (both _ _ h .0) .0)
 
 -- ---- what is within t passes t
 
-all-at : (t : ℕ → Bool) (k x y : ℕ) → allFrom t x k ≡ true → x ≤ y → y < x + k → t y ≡ true
+pub all-at : (t : ℕ → Bool) (k x y : ℕ) → allFrom t x k ≡ true → x ≤ y → y < x + k → t y ≡ true
 unfolding allFrom
 all-at t zero x y h l u = absurd (omega arith)
 all-at t (suc k) x y h l u = go (ℕ-discrete x y) (both (t x) (allFrom t (suc x) k) h) (all-at t k (suc x) y)
@@ -78,3 +82,9 @@ within-at (p ∷ ps) t x h e = go (inSet ps x) refl (both (within ps t) (allFrom
         let l : p .first ≤ x = r .0 in
         let u : x < p .past = r .1 in
         all-at t (p .past - p .first) (p .first) x (w .1) l (omega arith)
+
+-- a set that is there in one mode alone, and has nothing in the other
+pub within-if : (m : Bool) (ps : List Pair) (t : ℕ → Bool) → within (cond m ps []) t ≡ (not m || within ps t)
+unfolding within
+within-if true ps t = refl
+within-if false ps t = refl

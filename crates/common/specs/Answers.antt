@@ -1,7 +1,7 @@
 -- The answers: each number of the sheet has one name, here and in the code (crate `answers`).
 use Prim.Native.Nat.{ℕ}
 
--- ---- a step or a run: 0 and 1 end well, 2 to 13 are stops, 14 and 15 refuse the state
+-- ---- a step or a run: 0 and 1 end well, 2 to 13 and 17 are stops, 14 and 15 refuse the state
 
 -- the step ran, the budget is used, or the call is done
 abbrev pub done : ℕ
@@ -35,7 +35,7 @@ store-outside = 6
 abbrev pub store-forbidden : ℕ
 store-forbidden = 7
 
--- isolate: a set is not wholly inside memory, or has first >= past
+-- isolate: a set is not wholly inside memory, or has first >= past, or in strict mode has a word that the caller may not read
 abbrev pub bad-set : ℕ
 bad-set = 8
 
@@ -43,11 +43,11 @@ bad-set = 8
 abbrev pub empty-set : ℕ
 empty-set = 9
 
--- isolate: A' is not within A, J' not within A or J, or S' not within A or S of the caller
+-- isolate: A' is not within A, J' not within A or J, S' not within A or S, or in strict mode R' not within A or R of the caller
 abbrev pub not-within : ℕ
 not-within = 10
 
--- add jump target, add store target: the caller does not own the address
+-- add jump target, add store target, add read target: the caller does not own the address
 abbrev pub not-owned : ℕ
 not-owned = 11
 
@@ -63,9 +63,13 @@ no-number = 13
 abbrev pub bad-form : ℕ
 bad-form = 14
 
--- the owner of the word at pc is 1, 2, 3 or not below next
+-- the owner of the word at pc is a service's number or not below next
 abbrev pub bad-owner : ℕ
 bad-owner = 15
+
+-- strict mode: a Load from a word that the instruction's owner neither owns nor may read
+abbrev pub load-forbidden : ℕ
+load-forbidden = 17
 
 -- ---- the loader; the writer has bad-size and bad-entry too
 

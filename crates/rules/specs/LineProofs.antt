@@ -1,11 +1,11 @@
 -- The proof of the table of lines marked P: `lines`, one claim for all eight.
 use mathlib.Core.Path.{_≡_, refl, ap, _∙_, subst}
-use mathlib.Core.Bool.{true, false, cond, or-true}
+use mathlib.Core.Bool.{Bool, true, false, cond, or-true}
 use mathlib.Core.List.{List}
 use Prim.Native.Nat.{ℕ, suc, _≤_}
 use native.Mathlib.Omega.{arith}
-use borrow.Author.Tests.{ltb-true, lt-ltb, le-ltb, eq-eqb, ne-eqb}
-use lib.Dec.{ltb, eqb}
+use borrow.Author.Tests.{ltb-true, lt-ltb, le-leb, le-ltb, eq-eqb, ne-eqb}
+use lib.Dec.{ltb, leb, eqb}
 use lib.ListN.{getD, length}
 use lib.Seq.{getD-set-same}
 use Rattle.common.specs.Answers as answer
@@ -13,11 +13,12 @@ use Rattle.common.specs.Opcodes as is
 use Rattle.common.specs.Words.{row, allowed, Decoded, instruction, decode}
 use Rattle.common.specs.Instructions.{offset, displaced, branch, reg, arithmetic, pcAfter, regsAfter, wordsAfter, jumps}
 use Rattle.common.specs.Services.{isolate, serviceCount, isService, serviceAt, isServiceNumber}
+use Rattle.common.specs.ServiceLaws.{service-count, is-service}
 use Rattle.common.specs.AddressSets.{isEmpty, inSet}
 use Rattle.common.specs.Tests.{clash}
 use Rattle.rules.specs.Compartments.{member, empty, services}
 use Rattle.rules.specs.CompartmentLaws.{member-services, member-main}
-use Rattle.rules.specs.State.{State, firstNumber, inMemory, hasOwner, ownerAt, jumpersAt, writersAt, owns, mayJump, mayStore}
+use Rattle.rules.specs.State.{State, firstNumber, inMemory, hasOwner, ownerAt, jumpersAt, writersAt, readersAt, owns, mayJump, mayStore, mayRead, reads}
 use Rattle.rules.specs.Checks.{sameLengths, sized, numbered, seated, formed, badOwner, arrives, instructionAt, instructionVerdict, wordVerdict, setA, setJ, goodSets, setsWithin, returns, isolateVerdict, serviceVerdict, verdict}
 use Rattle.rules.specs.Step.{ranInstruction, joined, isolated, ranService, commit, Stepped, step}
 use Rattle.rules.specs.Run.{run}
@@ -66,9 +67,10 @@ back-pc : (regs : List ℕ) → (reg regs 1 ≡ 0 → ⊥) → pcAfter (decode 0
 unfolding pcAfter decode row allowed branch offset displaced
 back-pc regs h = simp (ne-eqb (reg regs 1) 0 h)
 
-far : isService 4294967295 ≡ false
+far : (m : Bool) → isService m 4294967295 ≡ false
 unfolding isService serviceCount
-far = refl
+far true = refl
+far false = refl
 
 back-ready : (s : State) (c : ℕ) → (decode 0x0C10FFFF .answer ≡ answer.done) × (instructionVerdict s c (decode 0x0C10FFFF) ≡ answer.done)
 unfolding decode row allowed instructionVerdict
@@ -80,7 +82,7 @@ ran-pc s c i = refl
 
 nobody : (s : State) → formed s ≡ true → s .cpu .pc ≡ 4294967295 → hasOwner s (s .cpu .pc) ≡ false
 unfolding hasOwner
-nobody s h e = simp (outside s h (s .cpu .pc) (omega arith)) (ap isService e ∙ far)
+nobody s h e = simp (outside s h (s .cpu .pc) (omega arith)) (ap (isService (s .cpu .strict)) e ∙ far (s .cpu .strict))
 
 back : Back
 back s h z r =
@@ -96,9 +98,8 @@ back s h z r =
 
 -- ---- isolate is called and the checks before 12 pass
 
-here : isService isolate ≡ true
-unfolding isService serviceCount
-here = refl
+here : (m : Bool) → isService m isolate ≡ true
+here m = is-service m isolate (omega arith) (omega arith)
 
 isolate-outside : (s : State) → formed s ≡ true → s .cpu .pc ≡ isolate → inMemory s (s .cpu .pc) ≡ false
 isolate-outside s h e = outside s h (s .cpu .pc) (omega arith)
@@ -109,7 +110,7 @@ unfolding verdict hasOwner serviceVerdict isolateVerdict badOwner
 called s h =
     let e : s .cpu .pc ≡ isolate = h .at in
     let o = isolate-outside s (h .formed) e in
-    simp (h .formed, o, ap isService e ∙ here, eq-eqb (s .cpu .pc) isolate e, h .arrives, h .good, h .some, h .within)
+    simp (h .formed, o, ap (isService (s .cpu .strict)) e ∙ here (s .cpu .strict), eq-eqb (s .cpu .pc) isolate e, h .arrives, h .good, h .some, h .within)
 
 isolate-step : (s : State) → Called s → verdict s ≡ answer.done → step s ≡ record { answer = answer.done; state = isolated s }
 unfolding commit ranService
@@ -118,10 +119,15 @@ isolate-step s h v = step-runs s v ∙ simp (isolate-outside s (h .formed) (h .a
 -- ---- row 7
 
 -- a state is tagged so where it was loaded
-pub loaded-tags : (words regs : List ℕ) (entry : ℕ) (old : State) → TagsAsLoaded (loaded words regs entry old)
-unfolding loaded serviceCount
-loaded-tags words regs entry old =
-    record { owners = filled (length words) 0 (old .owners); jumpers = filled (length words) services (old .jumpers); service = refl; next = refl }
+pub loaded-tags : (m : Bool) (words regs : List ℕ) (entry : ℕ) (old : State) → TagsAsLoaded (loaded m words regs entry old)
+unfolding loaded
+loaded-tags m words regs entry old =
+    record {
+      owners = filled (length words) 0 (old .owners);
+      jumpers = filled (length words) (services m) (old .jumpers);
+      service = refl;
+      next = refl;
+    }
 
 -- the state at isolate, after the Jump
 abbrev at-isolate : State → State
@@ -136,11 +142,13 @@ at-isolate s =
             jumped = true;
             next = s .cpu .next;
             services = s .cpu .services;
+            strict = s .cpu .strict;
           };
       words = s .words;
       owners = s .owners;
       jumpers = s .jumpers;
       writers = s .writers;
+      readers = s .readers;
     }
 
 jump-ran : (s : State) (k : ℕ) → reg (s .cpu .regs) k ≡ isolate → ranInstruction s 0 (instruction is.jump k 0 0) ≡ at-isolate s
@@ -156,17 +164,21 @@ jump-step s word k h d e t =
     ∙ ap (λ (x : State). record { answer = answer.done; state = x })
     (ap (λ (i : Decoded). ranInstruction s (ownerAt s (s .cpu .pc)) i) d ∙ ap (λ (c : ℕ). ranInstruction s c (instruction is.jump k 0 0)) o ∙ jump-ran s k e)
 
-call-ready : (s : State) → formed s ≡ true → TagsAsLoaded s → goodSets s ≡ true → isEmpty (setA s) ≡ false → setsWithin s 0 ≡ true → Called (at-isolate s)
-unfolding formed sized sameLengths numbered seated firstNumber serviceCount arrives goodSets setsWithin owns mayJump mayStore hasOwner ownerAt jumpersAt writersAt inMemory isServiceNumber
+call-ready : (s : State) → formed s ≡ true → TagsAsLoaded s → goodSets s 0 ≡ true → isEmpty (setA s) ≡ false → setsWithin s 0 ≡ true → Called (at-isolate s)
+unfolding formed sized sameLengths numbered seated firstNumber arrives goodSets setsWithin reads owns mayJump mayStore mayRead hasOwner ownerAt jumpersAt writersAt readersAt inMemory isServiceNumber
 call-ready s h t g n i =
     let z : sized s ≡ true = is-formed s h .sized in
     let m : s .cpu .n ≤ 2048 = is-sized s z .most in
-    let e : s .cpu .next ≡ 4 = t .next in
+    let e : s .cpu .next ≡ suc (serviceCount (s .cpu .strict)) = t .next in
+    let c = service-count (s .cpu .strict) in
+    let low : leb (suc (serviceCount (s .cpu .strict))) (s .cpu .next) ≡ true = le-leb (suc (serviceCount (s .cpu .strict))) (s .cpu .next) (omega arith) in
+    let high : leb (s .cpu .next) 64 ≡ true = le-leb (s .cpu .next) 64 (omega (arith, c .1)) in
+    let zero : ltb 0 (s .cpu .next) ≡ true = lt-ltb 0 (s .cpu .next) (omega arith) in
     let o : ltb isolate (s .cpu .n) ≡ false = le-ltb isolate (s .cpu .n) (omega arith) in
     record {
-      formed = simp (z, e);
+      formed = simp (z, low, high, zero);
       at = refl;
-      arrives = simp (o, here, t .service, member-main 0, or-true);
+      arrives = simp (o, here (s .cpu .strict), t .service, member-main 0, or-true);
       good = g;
       some = n;
       within = i;
@@ -187,15 +199,19 @@ call-lost s h e =
 
 -- 1 is in I of the word at 0, whether 0 is in J' or not
 call-arrives : (s : State) → sized s ≡ true → TagsAsLoaded s → reg (s .cpu .regs) 15 ≡ 0 → arrives (isolated (at-isolate s)) ≡ true
-unfolding isolated arrives mayJump jumpersAt inMemory serviceAt firstNumber serviceCount
+unfolding isolated arrives mayJump jumpersAt inMemory serviceAt firstNumber isServiceNumber
 call-arrives s z t e =
     let f = is-sized s z in
     let j : length (s .jumpers) ≡ length (s .words) = f .lent .jumpers in
     let k : s .cpu .n ≤ length (s .words) = f .lent .enough in
     let m : 1 ≤ s .cpu .n = f .some in
     let l : ltb 0 (s .cpu .n) ≡ true = lt-ltb 0 (s .cpu .n) (omega arith) in
-    let n : s .cpu .next ≡ 4 = t .next in
-    let old : member (getD (s .jumpers) 0 0) 1 ≡ true = ap (λ (v : ℕ). member v 1) (t .jumpers 0 (ltb-true _ _ l)) ∙ member-services 1 in
+    let n : s .cpu .next ≡ suc (serviceCount (s .cpu .strict)) = t .next in
+    let c = service-count (s .cpu .strict) in
+    let few : serviceCount (s .cpu .strict) ≤ 4 = c .1 in
+    let some : 3 ≤ serviceCount (s .cpu .strict) = c .0 in
+    let old : member (getD (s .jumpers) 0 0) 1 ≡ true =
+    ap (λ (v : ℕ). member v 1) (t .jumpers 0 (ltb-true _ _ l)) ∙ member-services (s .cpu .strict) 1 ∙ le-leb 1 (serviceCount (s .cpu .strict)) (omega arith) in
     let joins = join-all (s .cpu .n) (s .jumpers) (s .cpu .next) (omega arith) (omega arith) 1 0 (setJ s) empty empty (λ z. clash l z) in
     let y : member (getD (joined (s .cpu .n) (setJ s) (s .cpu .next) (s .jumpers)) 0 empty) 1 ≡ true = (simp l at joins) ∙ simp old in
     simp (e, l, y, or-true)
@@ -205,11 +221,12 @@ unfolding isolated
 isolated-pc s = refl
 
 call : Call
-unfolding run firstNumber serviceCount
+unfolding run firstNumber
 call s word k h d e t g n i a =
     let j = jump-step s word k h d e t in
     let r = call-ready s (h .formed) t g n i in
-    let four : s .cpu .next ≡ 4 = t .next in (
+    let first : s .cpu .next ≡ suc (serviceCount (s .cpu .strict)) = t .next in
+    let few : serviceCount (s .cpu .strict) ≤ 4 = service-count (s .cpu .strict) .1 in (
       λ z.
           let q : eqb (s .cpu .next) 64 ≡ false = ne-eqb (s .cpu .next) 64 (λ y. omega arith) in
           let v : verdict (at-isolate s) ≡ answer.done = called (at-isolate s) r ∙ simp (call-back s (h .formed) t a z, q) in

@@ -22,33 +22,34 @@ use Rattle.sources.specs.Assembling.{imageFor, Fits, refusal, accepted, 
 
 -- ---- loading what was assembled
 
--- the bytes written, over any memories of one length that have room for a word of each word line
-pub record Room (text : List ℕ) (old : State) : Type 0 where
+-- the bytes written, for either mode, over any memories of one length that have room for a word of each word line
+pub record Room (m : Bool) (text : List ℕ) (old : State) : Type 0 where
   pub words : wordsIn (readings text) ≤ length (old .words)
   pub owners : length (old .owners) ≡ length (old .words)
   pub jumpers : length (old .jumpers) ≡ length (old .words)
   pub writers : length (old .writers) ≡ length (old .words)
+  pub readers : m ≡ true → length (old .readers) ≡ length (old .words)
 
 -- the loader accepts them: the words that the text says, registers 0, and pc 0
-pub record Loads (text out : List ℕ) (old : State) : Type 0 where
+pub record Loads (m : Bool) (text out : List ℕ) (old : State) : Type 0 where
   pub words : List ℕ
   pub said : meaning text ≡ says words
-  pub loads : load (take (assemble text out .length) (assemble text out .out)) old ≡ record { answer = answer.done; state = loaded words noRegisters 0 old }
-  pub cpu : load (take (assemble text out .length) (assemble text out .out)) old .state .cpu ≡ fresh (wordsIn (readings text)) noRegisters 0
+  pub loads : load m (take (assemble text out .length) (assemble text out .out)) old ≡ record { answer = answer.done; state = loaded m words noRegisters 0 old }
+  pub cpu : load m (take (assemble text out .length) (assemble text out .out)) old .state .cpu ≡ fresh m (wordsIn (readings text)) noRegisters 0
 
-pub assembled-loads : (text out : List ℕ) → assemble text out .answer ≡ answer.done → (old : State) → Room text old → Loads text out old
+pub assembled-loads : (m : Bool) (text out : List ℕ) → assemble text out .answer ≡ answer.done → (old : State) → Room m text old → Loads m text out old
 unfolding loaded
-assembled-loads text out h old room =
+assembled-loads m text out h old room =
     let f = answer-0 text out .0 h in
     let ws = f .words in
     let count = says-exactly text ws .0 (f .said) .count in
     let enough : length ws ≤ length (old .words) = let r = room .words in omega arith in
     let whole = assemble-fits text out f in
     let most = says-most text ws (f .said) in
-    let again = read-again ws noRegisters 0 out old (f .some) most (words-small text ws (f .said)) refl (λ i b. zeros i b) (f .some) (f .room) enough (room .owners) (room .jumpers) (room .writers) in
+    let again = read-again m ws noRegisters 0 out old (f .some) most (words-small text ws (f .said)) refl (λ i b. zeros i b) (f .some) (f .room) enough (room .owners) (room .jumpers) (room .writers) (room .readers) in
     let w = written ws noRegisters 0 out (f .some) most (f .some) (f .room) in
-    let l : load (take (assemble text out .length) (assemble text out .out)) old ≡ record { answer = answer.done; state = loaded ws noRegisters 0 old } = rw whole (rw w at (again .1)) in
-    record { words = ws; said = f .said; loads = l; cpu = ap (λ (x : Loaded). x .state .cpu) l ∙ ap (λ (n : ℕ). fresh n noRegisters 0) count }
+    let l : load m (take (assemble text out .length) (assemble text out .out)) old ≡ record { answer = answer.done; state = loaded m ws noRegisters 0 old } = rw whole (rw w at (again .1)) in
+    record { words = ws; said = f .said; loads = l; cpu = ap (λ (x : Loaded). x .state .cpu) l ∙ ap (λ (n : ℕ). fresh m n noRegisters 0) count }
   where
     zeros : (i : ℕ) → i < length noRegisters → getD noRegisters i 0 < 2 ^ 32
     zeros i b = let z : getD noRegisters i 0 ≡ 0 = getD-replicate 16 i 0 0 b in omega arith

@@ -1,6 +1,6 @@
 -- What the tests on sets of pairs mean: membership is the union, `within` is "each address passes", no pair is no address, and what 8 asks for.
 use mathlib.Core.Path.{_≡_, refl, subst}
-use mathlib.Core.Bool.{Bool, true, false, _&&_, or-true}
+use mathlib.Core.Bool.{Bool, true, false, _&&_, or-true, and-true}
 use mathlib.Core.List.{List, [], _∷_}
 use mathlib.Core.Logic.{_↔_}
 use Prim.Native.Nat.{ℕ, zero, suc, _+_, _-_, _*_, _≤_, _<_}
@@ -9,9 +9,9 @@ use native.Mathlib.Decide.{ℕ-discrete}
 use borrow.Author.Tests.{ltb-true, leb-true, le-leb, lt-ltb}
 use lib.Dec.{ltb, leb}
 use lib.ListN.{getD}
 use Rattle.common.specs.Tests.{both, clash}
-use Rattle.common.specs.AddressSetLaws.{in-pair, within-at}
+use Rattle.common.specs.AddressSetLaws.{all-at, in-pair, within-at}
 use Rattle.common.specs.AddressSets.{Pair, pairsAt, setAt, inside, ordered, goodSet, isEmpty, inSet, allFrom, within}
 
 -- ---- one pair, and the pairs after it
 
@@ -114,15 +114,33 @@ unfolding ordered pairsAt
 at-ordered words p zero h = refl
 at-ordered words p (suc k) h = simp (at-ordered words p k (λ i l. h i (omega arith)), lt-ltb _ _ (h k (omega arith)))
 
--- not 8: the pointer, the count and every pair are inside the n words, and each pair has first < past
-pub good-set-iff : (words : List ℕ) (n q : ℕ)
-    → (goodSet words n q ≡ true)
+-- not 8: the pointer, the count and every pair are inside the n words, each pair has first < past, and the count and every word of a
+-- pair pass the test of what may be read
+pub good-set-iff : (words : List ℕ) (n : ℕ) (reads : ℕ → Bool) (q : ℕ)
+    → (goodSet words n reads q ≡ true)
     ↔ ((q < n) × (q + 1 + 2 * getD words q 0 ≤ n)
-    × ((i : ℕ) → i < getD words q 0 → getD words (q + 1 + 2 * i) 0 < getD words (q + 1 + 2 * i + 1) 0))
+    × ((i : ℕ) → i < getD words q 0 → getD words (q + 1 + 2 * i) 0 < getD words (q + 1 + 2 * i + 1) 0)
+    × ((x : ℕ) → q ≤ x → x < q + 1 + 2 * getD words q 0 → reads x ≡ true))
 unfolding goodSet inside setAt
-good-set-iff words n q = (
-  λ h. let a = both (ltb q n && leb (q + 1 + 2 * getD words q 0) n) _ h in
-      let b = both (ltb q n) _ (a .0) in
-      (ltb-true _ _ (b .0), leb-true _ _ (b .1), ordered-at words (q + 1) (getD words q 0) (a .1)),
-  λ h. simp (lt-ltb _ _ (h .0), le-leb _ _ (h .1), at-ordered words (q + 1) (getD words q 0) (h .2)),
+good-set-iff words n reads q = (
+  λ h. let c = both _ (allFrom reads q (suc (2 * getD words q 0))) h in
+      let a = both (ltb q n && leb (q + 1 + 2 * getD words q 0) n) _ (c .0) in
+      let b = both (ltb q n) _ (a .0) in (
+        ltb-true _ _ (b .0),
+        leb-true _ _ (b .1),
+        ordered-at words (q + 1) (getD words q 0) (a .1),
+        λ x l u. all-at reads (suc (2 * getD words q 0)) q x (c .1) l (omega arith),
+      ),
+  λ h. simp (
+    lt-ltb _ _ (h .0),
+    le-leb _ _ (h .1),
+    at-ordered words (q + 1) (getD words q 0) (h .2),
+    at-all reads (suc (2 * getD words q 0)) q (λ y l u. h .3 y l (omega arith)),
+  ),
 )
+
+-- where all may be read, the set's place and order alone count
+pub good-free : (words : List ℕ) (n : ℕ) (reads : ℕ → Bool) (q : ℕ) → ((x : ℕ) → reads x ≡ true)
+    → goodSet words n reads q ≡ (inside words n q && ordered (setAt words q))
+unfolding goodSet
+good-free words n reads q h = simp (at-all reads (suc (2 * getD words q 0)) q (λ y l u. h y), and-true)
