@@ -1,12 +1,12 @@
 -- Two outcomes of any promise of this crate are equal.
 use mathlib.Core.Path.{_≡_, refl}
-use mathlib.Core.Bool.{Bool, _&&_}
+use mathlib.Core.Bool.{Bool}
 use mathlib.Core.List.{List}
 use Prim.Native.Nat.{ℕ, _+_, min}
 use Rattle.common.specs.Promise.{View, once, itself}
-use Rattle.common.specs.AddressSets.{Pair, setAt, goodSet, inSet}
+use Rattle.common.specs.AddressSets.{Pair, setAt, inSet}
 use Rattle.address_sets.specs.declared.Pair as code
-use Rattle.address_sets.specs.SetLaws.{pairOf, pairAt}
+use Rattle.address_sets.specs.SetLaws.{pairOf, pairAt, inOrder}
 
 -- a pair of the code is one of the definitions
 abbrev pair-view : View code.Pair Pair
@@ -15,9 +15,8 @@ pair-view = record { seen = λ r. pairOf r; back = λ p. record { first = p .fir
 pub pair-at-once : (words : List ℕ) (q j : ℕ) (r p : code.Pair) → pairOf r ≡ pairAt words (q + 1) j → pairOf p ≡ pairAt words (q + 1) j → r ≡ p
 pair-at-once words q j r p = once pair-view (pairAt words (q + 1) j) r p
 
-pub all-good-once : (words : List ℕ) (n a j s : ℕ) (r p : Bool) → r ≡ (goodSet words n a && goodSet words n j && goodSet words n s)
-    → p ≡ (goodSet words n a && goodSet words n j && goodSet words n s) → r ≡ p
-all-good-once words n a j s r p = once itself (goodSet words n a && goodSet words n j && goodSet words n s) r p
+pub in-order-once : (words : List ℕ) (n q : ℕ) (r p : Bool) → r ≡ inOrder words n q → p ≡ inOrder words n q → r ≡ p
+in-order-once words n q r p = once itself (inOrder words n q) r p
 
 pub has-once : (words : List ℕ) (q x : ℕ) (r p : Bool) → r ≡ inSet (setAt words q) x → p ≡ inSet (setAt words q) x → r ≡ p
 has-once words q x r p = once itself (inSet (setAt words q) x) r p

@@ -7,10 +7,10 @@ use native.Mathlib.Nat.{not-suc-le-zero}
 use native.Mathlib.Numerals.{add-one}
 use native.Mathlib.Omega.{arith}
 use native.Mathlib.Decide.{ℕ-discrete}
-use borrow.Author.Tests.{lt-ltb, le-ltb, le-leb, lt-leb, ne-eqb, not-true, not-false}
+use borrow.Author.Tests.{lt-ltb, le-ltb, le-leb, lt-leb, ne-eqb}
 use lib.Dec.{ltb, eqb}
 use lib.ListN.{getD}
-use Rattle.common.specs.AddressSets.{Pair, pairsAt, setAt, inside, goodSet, ordered, isEmpty, inPair, inSet}
+use Rattle.common.specs.AddressSets.{Pair, pairsAt, setAt, inside, ordered, isEmpty, inPair, inSet}
 use Rattle.address_sets.specs.declared.Pair as code
 
 abbrev pub pairOf : code.Pair → Pair
@@ -81,17 +81,21 @@ every-misses x = record { none = refl; more = λ p ps. not-or (inSet ps x) (inPa
 
 -- ---- the set as a whole
 
-pub good-outside : (words : List ℕ) (n q : ℕ) → n ≤ q → goodSet words n q ≡ false
-unfolding goodSet inside
-good-outside words n q h = simp (le-ltb q n h)
+-- what 8 asks of a set besides that the caller may read its words
+abbrev pub inOrder : List ℕ → ℕ → ℕ → Bool
+inOrder words n q = inside words n q && ordered (setAt words q)
 
-pub good-long : (words : List ℕ) (n q : ℕ) → q < n → (n - q - 1) / 2 < getD words q 0 → goodSet words n q ≡ false
-unfolding goodSet inside
-good-long words n q h l = let e = lt-leb (q + 1 + 2 * getD words q 0) n (omega arith) in simp (e, lt-ltb q n h)
+pub order-outside : (words : List ℕ) (n q : ℕ) → n ≤ q → inOrder words n q ≡ false
+unfolding inside
+order-outside words n q h = simp (le-ltb q n h)
 
-pub good-inside : (words : List ℕ) (n q : ℕ) → q < n → getD words q 0 ≤ (n - q - 1) / 2 → goodSet words n q ≡ ordered (setAt words q)
-unfolding goodSet inside
-good-inside words n q h l = let e = le-leb (q + 1 + 2 * getD words q 0) n (omega arith) in simp (e, lt-ltb q n h)
+pub order-long : (words : List ℕ) (n q : ℕ) → q < n → (n - q - 1) / 2 < getD words q 0 → inOrder words n q ≡ false
+unfolding inside
+order-long words n q h l = let e = lt-leb (q + 1 + 2 * getD words q 0) n (omega arith) in simp (e, lt-ltb q n h)
+
+pub order-inside : (words : List ℕ) (n q : ℕ) → q < n → getD words q 0 ≤ (n - q - 1) / 2 → inOrder words n q ≡ ordered (setAt words q)
+unfolding inside
+order-inside words n q h l = let e = le-leb (q + 1 + 2 * getD words q 0) n (omega arith) in simp (e, lt-ltb q n h)
 
 -- a set of no pairs is the empty one
 pub empty-count : (words : List ℕ) (q : ℕ) → isEmpty (setAt words q) ≡ eqb (getD words q 0) 0
@@ -101,16 +105,3 @@ empty-count words q = go (getD words q 0)
     go : (k : ℕ) → isEmpty (pairsAt words (q + 1) k) ≡ eqb k 0
     go zero = refl
     go (suc k) = sym (ne-eqb (suc k) 0 (λ e. omega arith))
-
--- ---- three sets, tested one after the other
-
-module _ (a b d : Bool) (t : Bool) (e : t ≡ a) where
-  pub stops-first : not t ≡ true → false ≡ (a && b && d)
-  stops-first h = simp (← e, not-true t h)
-
-  module _ (h : not t ≡ false) (u : Bool) (f : u ≡ b) where
-    pub stops-second : not u ≡ true → false ≡ (a && b && d)
-    stops-second k = simp (← e, not-false t h, ← f, not-true u k)
-
-    pub third : not u ≡ false → (v : Bool) → v ≡ d → v ≡ (a && b && d)
-    third k v g = simp (← e, not-false t h, ← f, not-false u k) g

@@ -1,17 +1,9 @@
 // Sets of addresses where they stand in memory, "a count k, then k pairs (first, past)", read at any place: beyond the end it reads 0.
 ghost use mathlib.Core.Path.{_≡_};
-ghost use mathlib.Core.Bool.{_&&_};
 ghost use Prim.Native.Nat.{_+_, min};
 ghost use lib.ListN.{getD};
-ghost use Rattle.common.specs.AddressSets.{setAt, goodSet, ordered, inPair, inSet};
-ghost use Rattle.address_sets.specs.SetLaws.{pairOf, pairAt};
-
-// Where the services sit.
-pub const ISOLATE: u32 = 4096;
-
-pub const ADD_JUMP_TARGET: u32 = 4097;
-
-pub const ADD_STORE_TARGET: u32 = 4098;
+ghost use Rattle.common.specs.AddressSets.{setAt, ordered, inPair, inSet};
+ghost use Rattle.address_sets.specs.SetLaws.{pairOf, pairAt, inOrder};
 
 // The addresses first .. past - 1.
 pub struct Pair {
@@ -54,8 +46,8 @@ fn ordered(words: &[u32], q: u32) -> bool
 }
 
 // Whether the set at q is wholly inside memory and in order. The count is held against the room behind q, so nothing wraps.
-fn good(words: &[u32], n: u32, q: u32) -> bool
-    ensures { λ r. ⌜ r ≡ goodSet (now (words .entry)) n q ⌝ }
+pub fn in_order(words: &[u32], n: u32, q: u32) -> bool
+    ensures { λ r. ⌜ r ≡ inOrder (now (words .entry)) n q ⌝ }
 {
     if q >= n {
         return false;
@@ -65,19 +57,6 @@ fn good(words: &[u32], n: u32, q: u32) -> bool
         return false;
     }
     ordered(words, q)
-}
-
-// Whether the three sets are good.
-pub fn all_good(words: &[u32], n: u32, a: u32, j: u32, s: u32) -> bool
-    ensures { λ r. ⌜ r ≡ (goodSet (now (words .entry)) n a && goodSet (now (words .entry)) n j && goodSet (now (words .entry)) n s) ⌝ }
-{
-    if !good(words, n, a) {
-        return false;
-    }
-    if !good(words, n, j) {
-        return false;
-    }
-    good(words, n, s)
 }
 
 fn in_pair(pair: Pair, x: u32) -> bool

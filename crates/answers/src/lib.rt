@@ -1,5 +1,5 @@
 // The answers' numbers by name, the same names as in crates/common/specs/Answers.antt.
-// A step or a run: 0 and 1 end well, 2 to 13 are stops, 14 and 15 refuse the state.
+// A step or a run: 0 and 1 end well, 2 to 13 and 17 are stops, 14 and 15 refuse the state.
 pub const DONE: u32 = 0;
 
 pub const HALT: u32 = 1;
@@ -31,6 +31,8 @@ pub const NO_NUMBER: u32 = 13;
 pub const BAD_FORM: u32 = 14;
 
 pub const BAD_OWNER: u32 = 15;
+
+pub const LOAD_FORBIDDEN: u32 = 17;
 
 // The loader; the writer has BAD_SIZE and BAD_ENTRY too.
 pub const NOT_WHOLE: u32 = 20;

@@ -13,8 +13,8 @@ set-view = record { seen = λ s. s .0; back = λ n. record { 0 = n }; whole = λ
 pub none-once : (r q : Set) → r .0 ≡ empty → q .0 ≡ empty → r ≡ q
 none-once r q = once set-view empty r q
 
-pub of-services-once : (r q : Set) → r .0 ≡ services → q .0 ≡ services → r ≡ q
-of-services-once r q = once set-view services r q
+pub of-services-once : (strict : Bool) (r q : Set) → r .0 ≡ services strict → q .0 ≡ services strict → r ≡ q
+of-services-once strict r q = once set-view (services strict) r q
 
 pub contains-once : (self : Set) (number : ℕ) (r q : Bool) → r ≡ member (self .0) number → q ≡ member (self .0) number → r ≡ q
 contains-once self number r q = once itself (member (self .0) number) r q

@@ -10,6 +10,9 @@ impl Set {
     // The compartments 1, 2 and 3, which own the three services.
     pub const SERVICES: Set = Set(14);
 
+    // 1 to 4, which own the four services of strict mode.
+    pub const SERVICES_STRICT: Set = Set(30);
+
     // The set with no number in it.
     pub fn none() -> Set
         ensures { λ r. ⌜ r .0 ≡ empty ⌝ }
@@ -18,10 +21,14 @@ impl Set {
     }
 
     // The set of the services' numbers.
-    pub fn of_services() -> Set
-        ensures { λ r. ⌜ r .0 ≡ services ⌝ }
+    pub fn of_services(strict: bool) -> Set
+        ensures { λ r. ⌜ r .0 ≡ services strict ⌝ }
     {
-        Set::SERVICES
+        if strict {
+            Set::SERVICES_STRICT
+        } else {
+            Set::SERVICES
+        }
     }
 
     // Whether a number is in the set; one from 64 on is in none.

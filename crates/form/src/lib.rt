@@ -1,10 +1,17 @@
-// Check 14: whether a processor's numbers and the lengths of four lent memories form a state.
+// Check 14: whether a processor's numbers and the lengths of the lent memories form a state.
 ghost use mathlib.Core.Path.{_≡_};
-ghost use Rattle.form.specs.Form.{sizedBy, numberedBy, seatedBy, formedBy};
+ghost use Rattle.form.specs.Form.{lengthsBy, roomBy, numberedBy, seatedBy, formedBy};
 
-// The lengths of the four memories are equal, and N is 1 to 2,048 and not above them.
-fn is_sized(n: u32, words: usize, owners: usize, jumpers: usize, writers: usize) -> bool
-    ensures { λ r. ⌜ r ≡ sizedBy n words owners jumpers writers ⌝ }
+// Whether the lent memories are of one length; the readers' counts in strict mode alone.
+pub fn same_lengths(
+    strict: bool,
+    words: usize,
+    owners: usize,
+    jumpers: usize,
+    writers: usize,
+    readers: usize,
+) -> bool
+    ensures { λ r. ⌜ r ≡ lengthsBy strict words owners jumpers writers readers ⌝ }
 {
     if owners != words {
         return false;
@@ -15,6 +22,16 @@ fn is_sized(n: u32, words: usize, owners: usize, jumpers: usize, writers: usize)
     if writers != words {
         return false;
     }
+    if !strict {
+        return true;
+    }
+    readers == words
+}
+
+// N is 1 to 2,048 and not above the memories' length.
+fn has_room(n: u32, words: usize) -> bool
+    ensures { λ r. ⌜ r ≡ roomBy n words ⌝ }
+{
     if n < 1 {
         return false;
     }
@@ -24,11 +41,11 @@ fn is_sized(n: u32, words: usize, owners: usize, jumpers: usize, writers: usize)
     n as usize <= words
 }
 
-// next is 4 to 64, and the pc number below it.
-fn is_numbered(next: u32, prev: u32) -> bool
-    ensures { λ r. ⌜ r ≡ numberedBy next prev ⌝ }
+// next is the first number after loading to 64, and the pc number below it.
+fn is_numbered(strict: bool, next: u32, prev: u32) -> bool
+    ensures { λ r. ⌜ r ≡ numberedBy strict next prev ⌝ }
 {
-    if next < 4 {
+    if next < modes::first_number(strict) {
         return false;
     }
     if 64 < next {
@@ -38,23 +55,18 @@ fn is_numbered(next: u32, prev: u32) -> bool
 }
 
 // No service's number at a service address.
-fn is_seated(prev: u32, pc: u32) -> bool
-    ensures { λ r. ⌜ r ≡ seatedBy prev pc ⌝ }
+fn is_seated(strict: bool, prev: u32, pc: u32) -> bool
+    ensures { λ r. ⌜ r ≡ seatedBy strict prev pc ⌝ }
 {
-    if pc < 4096 {
+    if !modes::is_service(strict, pc) {
         return true;
     }
-    if 4098 < pc {
-        return true;
-    }
-    if prev < 1 {
-        return true;
-    }
-    3 < prev
+    !modes::is_service_number(strict, prev)
 }
 
 // Whether they form a state.
 pub fn is_formed(
+    strict: bool,
     n: u32,
     pc: u32,
     prev: u32,
@@ -63,14 +75,18 @@ pub fn is_formed(
     owners: usize,
     jumpers: usize,
     writers: usize,
+    readers: usize,
 ) -> bool
-    ensures { λ r. ⌜ r ≡ formedBy n pc prev next words owners jumpers writers ⌝ }
+    ensures { λ r. ⌜ r ≡ formedBy strict n pc prev next words owners jumpers writers readers ⌝ }
 {
-    if !is_sized(n, words, owners, jumpers, writers) {
+    if !same_lengths(strict, words, owners, jumpers, writers, readers) {
         return false;
     }
-    if !is_numbered(next, prev) {
+    if !has_room(n, words) {
         return false;
     }
-    is_seated(prev, pc)
+    if !is_numbered(strict, next, prev) {
+        return false;
+    }
+    is_seated(strict, prev, pc)
 }

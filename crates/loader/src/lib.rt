@@ -2,8 +2,7 @@
 mod filling;
 
 ghost use mathlib.Core.Path.{_≡_};
-ghost use mathlib.Core.Bool.{_&&_};
-ghost use lib.Dec.{eqb};
+ghost use mathlib.Core.Bool.{cond};
 ghost use Rattle.rules.specs.Images.{load, fresh};
 ghost use Rattle.machine.specs.Views.{cpuOf};
 ghost use Rattle.loader.specs.Loading.{imageFor};
@@ -24,44 +23,39 @@ pub struct Loaded {
 // The owner of every word after loading: the main compartment.
 const MAIN: u32 = 0;
 
-// The first unused compartment number after loading.
-const FIRST_NUMBER: u32 = 4;
-
-// The processor as after loading; N = 0 makes the blank one.
-fn fresh(n: u32, regs: [u32; 16], pc: u32) -> Processor
-    ensures { λ r. ⌜ cpuOf r ≡ fresh n regs pc ⌝ }
+// The processor as after loading in a mode; N = 0 makes the blank one.
+fn fresh(strict: bool, n: u32, regs: [u32; 16], pc: u32) -> Processor
+    ensures { λ r. ⌜ cpuOf r ≡ fresh strict n regs pc ⌝ }
 {
     let main = Set::none().insert(MAIN);
     let jumpers = main.0;
-    let services = [jumpers; 3];
+    let services = [jumpers; 4];
+    let next = modes::first_number(strict);
     Processor {
         n,
         regs,
         pc,
         prev: MAIN,
         jumped: false,
-        next: FIRST_NUMBER,
+        strict,
+        next,
         services,
     }
 }
 
-fn same_lengths(words: usize, owners: usize, jumpers: usize, writers: usize) -> bool
-    ensures { λ r. ⌜ r ≡ (eqb owners words && eqb jumpers words && eqb writers words) ⌝ }
-{
-    if owners != words {
-        return false;
-    }
-    if jumpers != words {
-        return false;
-    }
-    writers == words
-}
-
 // What an image says for memories of these lengths; or a refusal and zeros.
-fn image_for(bytes: &[u8], words: usize, owners: usize, jumpers: usize, writers: usize) -> Image
-    ensures { λ r. ⌜ r ≡ imageFor (now (bytes .entry)) words owners jumpers writers ⌝ }
+fn image_for(
+    strict: bool,
+    bytes: &[u8],
+    words: usize,
+    owners: usize,
+    jumpers: usize,
+    writers: usize,
+    readers: usize,
+) -> Image
+    ensures { λ r. ⌜ r ≡ imageFor strict (now (bytes .entry)) words owners jumpers writers readers ⌝ }
 {
-    if !same_lengths(words, owners, jumpers, writers) {
+    if !form::same_lengths(strict, words, owners, jumpers, writers, readers) {
         return Image {
             answer: answers::LENGTHS_DIFFER,
             size: 0,
@@ -72,33 +66,45 @@ fn image_for(bytes: &[u8], words: usize, owners: usize, jumpers: usize, writers:
     reader::read(bytes, words)
 }
 
-// Loads an image into lent memories. All checks come first; a refused image says that it has 0 words, so nothing is filled
+// How many places of the readers are filled where n words are: none in 01's mode.
+fn read_places(strict: bool, n: usize) -> usize
+    ensures { λ r. ⌜ r ≡ cond strict n 0 ⌝ }
+{
+    if strict { n } else { 0 }
+}
+
+// Loads an image into lent memories, for a run in a mode. All checks come first; a refused image says that it has 0 words, so nothing is filled
 // and the record is the blank one.
 pub fn load(
+    strict: bool,
     bytes: &[u8],
     words: &mut [u32],
     owners: &mut [u32],
     jumpers: &mut [u64],
     writers: &mut [u64],
+    readers: &mut [u64],
 ) -> Loaded
-    ensures { λ r. ⌜ loadedOf r (now (words .exit)) (now (owners .exit)) (now (jumpers .exit)) (now (writers .exit)) ≡ load (now (bytes .entry)) (lent (now (words .entry)) (now (owners .entry)) (now (jumpers .entry)) (now (writers .entry))) ⌝ }
+    ensures { λ r. ⌜ loadedOf r (now (words .exit)) (now (owners .exit)) (now (jumpers .exit)) (now (writers .exit)) (now (readers .exit)) ≡ load strict (now (bytes .entry)) (lent (now (words .entry)) (now (owners .entry)) (now (jumpers .entry)) (now (writers .entry)) (now (readers .entry))) ⌝ }
 {
     let image = image_for(
+        strict,
         bytes,
         words.len(),
         owners.len(),
         jumpers.len(),
         writers.len(),
+        readers.len(),
     );
-    let services = Set::of_services();
+    let services = Set::of_services(strict);
     let none = Set::none();
     let n = image.size as usize;
     fill_words(words, bytes, n);
     fill_owners(owners, n, MAIN);
     fill_sets(jumpers, n, services.0);
     fill_sets(writers, n, none.0);
+    fill_sets(readers, read_places(strict, n), none.0);
     let regs = image.regs;
-    let cpu = fresh(image.size, regs, image.entry);
+    let cpu = fresh(strict, image.size, regs, image.entry);
     Loaded {
         cpu,
         answer: image.answer,

@@ -60,11 +60,11 @@ module _ (budget count : ℕ) (s : State) where
   used h = let k : budget - count ≡ 0 = omega arith in simp (k, add-zero)
 
 -- an arrival without a jump is that of a compartment which passes 15
-abbrev pub Home : ℕ → ℕ → Type 0
-Home arrival next = arrival < 4294967296 → free arrival next ≡ true
+abbrev pub Home : Bool → ℕ → ℕ → Type 0
+Home strict arrival next = arrival < 4294967296 → free strict arrival next ≡ true
 
-pub unasked-home : (prev : ℕ) (jumped : Bool) (next arrival : ℕ) → arrival ≡ unasked prev jumped → Home arrival next
-unasked-home prev jumped next arrival e h = absurd (unasked-far prev jumped (subst (λ (a : ℕ). a < 4294967296) e h))
+pub unasked-home : (strict : Bool) (prev : ℕ) (jumped : Bool) (next arrival : ℕ) → arrival ≡ unasked prev jumped → Home strict arrival next
+unasked-home strict prev jumped next arrival e h = absurd (unasked-far prev jumped (subst (λ (a : ℕ). a < 4294967296) e h))
 
 -- ---- what holds at the loop's head: count steps of the run from s₀ are behind, and s is reached
 
@@ -74,6 +74,7 @@ pub record Going (s₀ s : State) (budget count : ℕ) : Type 0 where
   pub owners : length (s .owners) ≡ length (s₀ .owners)
   pub jumpers : length (s .jumpers) ≡ length (s₀ .jumpers)
   pub writers : length (s .writers) ≡ length (s₀ .writers)
+  pub readers : length (s .readers) ≡ length (s₀ .readers)
   pub form : formed s ≡ true
   pub so-far : run budget s₀ ≡ after count (run (budget - count) s)
 
@@ -98,7 +99,7 @@ module _ (budget : ℕ) (s : State) where
 
     pub starts : not t ≡ false → Going s s budget 0
     starts h =
-        record { most = omega arith; words = refl; owners = refl; jumpers = refl; writers = refl; form = formed-by s ∙ sym e ∙ not-false t h; so-far = begins budget s }
+        record { most = omega arith; words = refl; owners = refl; jumpers = refl; writers = refl; readers = refl; form = formed-by s ∙ sym e ∙ not-false t h; so-far = begins budget s }
 
 module _ (s₀ s : State) (budget count : ℕ) (g : Going s₀ s budget count) where
   -- the budget is used
@@ -127,19 +128,20 @@ module _ (s₀ s : State) (budget count : ℕ) (g : Going s₀ s budget count) w
               owners = k .owners .same-length ∙ g .owners;
               jumpers = k .jumpers .same-length ∙ g .jumpers;
               writers = k .writers .same-length ∙ g .writers;
+              readers = k .readers .same-length ∙ g .readers;
               form = step-formed s (g .form);
               so-far = g .so-far ∙ goes-on budget count s h ran;
             }
 
   -- at a memory word: m is what was decided
-  module _ (h : count < budget) (k : s .cpu .pc < s .cpu .n) (arrival : ℕ) (ep : s .cpu .prev ≡ prevOf arrival) (ej : s .cpu .jumped ≡ jumpedOf arrival) (at-home : Home arrival (s .cpu .next)) (m : Move) (decided : m ≡ moveFrom arrival (s .cpu .regs) (s .cpu .pc) (s .cpu .next) (s .cpu .n) (s .words) (s .owners) (s .jumpers) (s .writers)) where
+  module _ (h : count < budget) (k : s .cpu .pc < s .cpu .n) (arrival : ℕ) (ep : s .cpu .prev ≡ prevOf arrival) (ej : s .cpu .jumped ≡ jumpedOf arrival) (at-home : Home (s .cpu .strict) arrival (s .cpu .next)) (m : Move) (decided : m ≡ moveFrom arrival (s .cpu .regs) (s .cpu .pc) (s .cpu .next) (s .cpu .strict) (s .cpu .n) (s .words) (s .owners) (s .jumpers) (s .writers) (s .readers)) where
     small : s .cpu .n ≤ 4294967295
     small = let l = n-most s (g .form) in omega arith
 
     e : m ≡ moveAt s
     e =
         simp (ep, ej)
-        (decided ∙ home-move arrival (s .cpu .regs) (s .cpu .pc) (s .cpu .next) (s .cpu .n) (s .words) (s .owners) (s .jumpers) (s .writers) at-home)
+        (decided ∙ home-move arrival (s .cpu .regs) (s .cpu .pc) (s .cpu .next) (s .cpu .strict) (s .cpu .n) (s .words) (s .owners) (s .jumpers) (s .writers) (s .readers) at-home)
 
     pub word-stops : m .answer ≢ answer.done → record { answer = m .answer; state = s; count = count } ≡ run budget s₀
     word-stops a = stops h (record { answer = m .answer; state = s }) (move-stops s (g .form) k small m e a) a
@@ -148,40 +150,41 @@ module _ (s₀ s : State) (budget count : ℕ) (g : Going s₀ s budget count) w
       abbrev there : State
       there =
           record {
-            cpu = record { n = s .cpu .n; regs = regs; pc = m .pc; prev = prevOf (m .arrival); jumped = jumpedOf (m .arrival); next = s .cpu .next; services = s .cpu .services };
+            cpu = record { n = s .cpu .n; regs = regs; pc = m .pc; prev = prevOf (m .arrival); jumped = jumpedOf (m .arrival); next = s .cpu .next; services = s .cpu .services; strict = s .cpu .strict };
             words = words;
             owners = s .owners;
             jumpers = s .jumpers;
             writers = s .writers;
+            readers = s .readers;
           }
 
       pub word-turns : Going s₀ there budget (count + 1)
       word-turns = turns h (record { answer = answer.done; state = there }) (simp (r, w) (move-runs s (g .form) k small m e a)) refl
 
     -- who ran passed 15
-    pub word-home : m .answer ≡ answer.done → Home (m .arrival) (s .cpu .next)
+    pub word-home : m .answer ≡ answer.done → Home (s .cpu .strict) (m .arrival) (s .cpu .next)
     word-home a =
         let z : moveAt s .answer ≡ answer.done = ap (λ (v : Move). v .answer) (sym e) ∙ a in
-        subst (λ (v : Move). Home (v .arrival) (s .cpu .next)) (sym e) (move-free s (g .form) z)
+        subst (λ (v : Move). Home (s .cpu .strict) (v .arrival) (s .cpu .next)) (sym e) (move-free s (g .form) z)
 
   -- elsewhere: o is what the step at a service came to
   module _ (h : count < budget) (k : s .cpu .n ≤ s .cpu .pc) (o : Serving) (e : o ≡ serving s) where
     pub service-stops : o .answer ≢ answer.done
-        → record { answer = o .answer; state = record { cpu = s .cpu; words = s .words; owners = o .owners; jumpers = o .jumpers; writers = o .writers }; count = count } ≡ run budget s₀
-    service-stops a = stops h (record { answer = o .answer; state = record { cpu = s .cpu; words = s .words; owners = o .owners; jumpers = o .jumpers; writers = o .writers } }) (serving-stops s (g .form) k o e a) a
+        → record { answer = o .answer; state = record { cpu = s .cpu; words = s .words; owners = o .owners; jumpers = o .jumpers; writers = o .writers; readers = o .readers }; count = count } ≡ run budget s₀
+    service-stops a = stops h (record { answer = o .answer; state = record { cpu = s .cpu; words = s .words; owners = o .owners; jumpers = o .jumpers; writers = o .writers; readers = o .readers } }) (serving-stops s (g .form) k o e a) a
 
     pub service-turns : o .answer ≡ answer.done
-        → Going s₀ (record { cpu = backWith (s .cpu) (o .number) (o .next) (o .services); words = s .words; owners = o .owners; jumpers = o .jumpers; writers = o .writers }) budget (count + 1)
-    service-turns a = turns h (record { answer = o .answer; state = record { cpu = backWith (s .cpu) (o .number) (o .next) (o .services); words = s .words; owners = o .owners; jumpers = o .jumpers; writers = o .writers } }) (serving-runs s (g .form) k o e a) a
+        → Going s₀ (record { cpu = backWith (s .cpu) (o .number) (o .next) (o .services); words = s .words; owners = o .owners; jumpers = o .jumpers; writers = o .writers; readers = o .readers }) budget (count + 1)
+    service-turns a = turns h (record { answer = o .answer; state = record { cpu = backWith (s .cpu) (o .number) (o .next) (o .services); words = s .words; owners = o .owners; jumpers = o .jumpers; writers = o .writers; readers = o .readers } }) (serving-runs s (g .form) k o e a) a
 
 -- ---- the state by the arrival that the code keeps
 
-module _ (regs : List ℕ) (n pc next : ℕ) (services words owners jumpers writers : List ℕ) (prev : ℕ) (jumped : Bool) (arrival : ℕ) where
+module _ (strict : Bool) (regs : List ℕ) (n pc next : ℕ) (services words owners jumpers writers readers : List ℕ) (prev : ℕ) (jumped : Bool) (arrival : ℕ) where
   abbrev told : State
-  told = stateFrom regs n pc prev jumped next services words owners jumpers writers
+  told = stateFrom strict regs n pc prev jumped next services words owners jumpers writers readers
 
   abbrev kept : State
-  kept = stateFrom regs n pc (prevOf arrival) (jumpedOf arrival) next services words owners jumpers writers
+  kept = stateFrom strict regs n pc (prevOf arrival) (jumpedOf arrival) next services words owners jumpers writers readers
 
   -- not asked for 15 yet
   pub arrived : prev < 4294967296 → arrival ≡ unasked prev jumped → (s₀ : State) (budget count : ℕ) → Going s₀ told budget count → Going s₀ kept budget count
@@ -192,11 +195,11 @@ module _ (regs : List ℕ) (n pc next : ℕ) (services words owners jumpers writ
   called ep ej o e = simp (← ep, ← ej) e
 
 -- at the end of the loop over services the numbers are those of its head or of the loop inside it
-module _ (s₀ : State) (budget n next : ℕ) (services owners jumpers writers : List ℕ) where
+module _ (s₀ : State) (strict : Bool) (budget n next : ℕ) (services owners jumpers writers readers : List ℕ) where
   pub left : (words regs : List ℕ) (pc arrival count : ℕ) (words₁ regs₁ : List ℕ) (pc₁ arrival₁ count₁ : ℕ)
       → words ≡ words₁ → count ≡ count₁ → pc ≡ pc₁ → arrival ≡ arrival₁ → regs ≡ regs₁
-      → Going s₀ (stateFrom regs₁ n pc₁ (prevOf arrival₁) (jumpedOf arrival₁) next services words₁ owners jumpers writers) budget count₁ → budget ≤ count₁
-      → Going s₀ (stateFrom regs n pc (prevOf arrival) (jumpedOf arrival) next services words owners jumpers writers) budget count × (budget ≤ count)
+      → Going s₀ (stateFrom strict regs₁ n pc₁ (prevOf arrival₁) (jumpedOf arrival₁) next services words₁ owners jumpers writers readers) budget count₁ → budget ≤ count₁
+      → Going s₀ (stateFrom strict regs n pc (prevOf arrival) (jumpedOf arrival) next services words owners jumpers writers readers) budget count × (budget ≤ count)
   left words regs pc arrival count words₁ regs₁ pc₁ arrival₁ count₁ ew ec ep ea er g h =
       (simp (ew, ec, ep, ea, er) g, omega arith)
 

@@ -9,18 +9,18 @@ use Rattle.machine.specs.declared.Stepped.{Stepped}
 use Rattle.machine.specs.declared.Ran.{Ran}
 
 abbrev pub cpuOf : Processor → rules.Processor
-cpuOf p = record { n = p .n; regs = p .regs; pc = p .pc; prev = p .prev; jumped = p .jumped; next = p .next; services = p .services }
+cpuOf p = record { n = p .n; regs = p .regs; pc = p .pc; prev = p .prev; jumped = p .jumped; strict = p .strict; next = p .next; services = p .services }
 
 abbrev pub processorOf : rules.Processor → Processor
-processorOf p = record { n = p .n; regs = p .regs; pc = p .pc; prev = p .prev; jumped = p .jumped; next = p .next; services = p .services }
+processorOf p = record { n = p .n; regs = p .regs; pc = p .pc; prev = p .prev; jumped = p .jumped; strict = p .strict; next = p .next; services = p .services }
 
--- the record with the words, owners, jumpers and writers lent to a call
-abbrev pub stateOf : Processor → List ℕ → List ℕ → List ℕ → List ℕ → rules.State
-stateOf p words owners jumpers writers = record { cpu = cpuOf p; words = words; owners = owners; jumpers = jumpers; writers = writers }
+-- the record with the words, owners, jumpers, writers and readers lent to a call
+abbrev pub stateOf : Processor → List ℕ → List ℕ → List ℕ → List ℕ → List ℕ → rules.State
+stateOf p words owners jumpers writers readers = record { cpu = cpuOf p; words = words; owners = owners; jumpers = jumpers; writers = writers; readers = readers }
 
 -- what a step and a run hand back, with what they leave in the memories
-abbrev pub steppedOf : Stepped → List ℕ → List ℕ → List ℕ → List ℕ → step.Stepped
-steppedOf r words owners jumpers writers = record { answer = r .answer; state = stateOf (r .cpu) words owners jumpers writers }
+abbrev pub steppedOf : Stepped → List ℕ → List ℕ → List ℕ → List ℕ → List ℕ → step.Stepped
+steppedOf r words owners jumpers writers readers = record { answer = r .answer; state = stateOf (r .cpu) words owners jumpers writers readers }
 
-abbrev pub ranOf : Ran → List ℕ → List ℕ → List ℕ → List ℕ → run.Ran
-ranOf r words owners jumpers writers = record { answer = r .answer; state = stateOf (r .cpu) words owners jumpers writers; count = r .count }
+abbrev pub ranOf : Ran → List ℕ → List ℕ → List ℕ → List ℕ → List ℕ → run.Ran
+ranOf r words owners jumpers writers readers = record { answer = r .answer; state = stateOf (r .cpu) words owners jumpers writers readers; count = r .count }

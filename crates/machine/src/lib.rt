@@ -16,10 +16,12 @@ pub struct Processor {
     pub prev: u32,
     // whether the last step was a Jump, a Jal or a service
     pub jumped: bool,
+    // the mode: whether reading is fenced
+    pub strict: bool,
     // the first unused compartment number
     pub next: u32,
-    // the set I of each service
-    pub services: [u64; 3],
+    // the set I of each service; in 01's mode there are three, and the last set is neither looked at nor changed
+    pub services: [u64; 4],
 }
 
 // The record after a step, and the step's answer.
@@ -38,15 +40,16 @@ pub struct Ran {
 // The numbers that a run ends with.
 fn ended(
     n: u32,
+    strict: bool,
     regs: [u32; 16],
     pc: u32,
     arrival: u64,
     next: u32,
-    services: [u64; 3],
+    services: [u64; 4],
     answer: u32,
     count: u32,
 ) -> Ran
-    ensures { λ r. ⌜ r ≡ record { cpu = record { n = n; regs = regs; pc = pc; prev = prevOf arrival; jumped = jumpedOf arrival; next = next; services = services }; answer = answer; count = count } ⌝ }
+    ensures { λ r. ⌜ r ≡ record { cpu = record { n = n; regs = regs; pc = pc; prev = prevOf arrival; jumped = jumpedOf arrival; strict = strict; next = next; services = services }; answer = answer; count = count } ⌝ }
 {
     let prev = arrival::prev_of(arrival);
     let jumped = arrival::jumped_of(arrival);
@@ -57,6 +60,7 @@ fn ended(
             pc,
             prev,
             jumped,
+            strict,
             next,
             services,
         },
@@ -75,9 +79,10 @@ impl Processor {
         owners: &mut [u32],
         jumpers: &mut [u64],
         writers: &mut [u64],
+        readers: &mut [u64],
         budget: u32,
     ) -> Ran
-        ensures { λ r. ⌜ ranOf r (now (words .exit)) (now (owners .exit)) (now (jumpers .exit)) (now (writers .exit)) ≡ run budget (stateOf self (now (words .entry)) (now (owners .entry)) (now (jumpers .entry)) (now (writers .entry))) ⌝ }
+        ensures { λ r. ⌜ ranOf r (now (words .exit)) (now (owners .exit)) (now (jumpers .exit)) (now (writers .exit)) (now (readers .exit)) ≡ run budget (stateOf self (now (words .entry)) (now (owners .entry)) (now (jumpers .entry)) (now (writers .entry)) (now (readers .entry))) ⌝ }
     {
         let mut count: u32 = 0;
         if budget == 0 {
@@ -88,10 +93,12 @@ impl Processor {
             };
         }
         let n = self.n;
+        let strict = self.strict;
         let mut pc = self.pc;
         let prev = self.prev;
         let mut next = self.next;
         if !form::is_formed(
+            strict,
             n,
             pc,
             prev,
@@ -100,6 +107,7 @@ impl Processor {
             owners.len(),
             jumpers.len(),
             writers.len(),
+            readers.len(),
         ) {
             return Ran {
                 cpu: self,
@@ -116,10 +124,22 @@ impl Processor {
                 if budget <= count {
                     break;
                 }
-                let m = moves::decide(&regs, pc, arrival, next, n, words, owners, jumpers, writers);
+                let m = moves::decide(
+                    &regs,
+                    pc,
+                    arrival,
+                    next,
+                    strict,
+                    n,
+                    words,
+                    owners,
+                    jumpers,
+                    writers,
+                    readers,
+                );
                 let answer = m.answer;
                 if answer != answers::DONE {
-                    return ended(n, regs, pc, arrival, next, services, answer, count);
+                    return ended(n, strict, regs, pc, arrival, next, services, answer, count);
                 }
                 memory::put_reg(&mut regs, m.rd, m.value);
                 memory::put_word(words, n, m.place, m.word);
@@ -132,6 +152,7 @@ impl Processor {
             }
             let s = service::serve(
                 &regs,
+                strict,
                 n,
                 pc,
                 arrival::prev_of(arrival),
@@ -142,10 +163,11 @@ impl Processor {
                 owners,
                 jumpers,
                 writers,
+                readers,
             );
             let answer = s.answer;
             if answer != answers::DONE {
-                return ended(n, regs, pc, arrival, next, services, answer, count);
+                return ended(n, strict, regs, pc, arrival, next, services, answer, count);
             }
             pc = regs[15];
             arrival = arrival::unasked(s.number, true);
@@ -153,7 +175,17 @@ impl Processor {
             services = s.services;
             count += 1;
         }
-        ended(n, regs, pc, arrival, next, services, answers::DONE, count)
+        ended(
+            n,
+            strict,
+            regs,
+            pc,
+            arrival,
+            next,
+            services,
+            answers::DONE,
+            count,
+        )
     }
 
     // One step: a run of budget 1.
@@ -163,10 +195,11 @@ impl Processor {
         owners: &mut [u32],
         jumpers: &mut [u64],
         writers: &mut [u64],
+        readers: &mut [u64],
     ) -> Stepped
-        ensures { λ r. ⌜ steppedOf r (now (words .exit)) (now (owners .exit)) (now (jumpers .exit)) (now (writers .exit)) ≡ step (stateOf self (now (words .entry)) (now (owners .entry)) (now (jumpers .entry)) (now (writers .entry))) ⌝ }
+        ensures { λ r. ⌜ steppedOf r (now (words .exit)) (now (owners .exit)) (now (jumpers .exit)) (now (writers .exit)) (now (readers .exit)) ≡ step (stateOf self (now (words .entry)) (now (owners .entry)) (now (jumpers .entry)) (now (writers .entry)) (now (readers .entry))) ⌝ }
     {
-        let r = self.run(words, owners, jumpers, writers, 1);
+        let r = self.run(words, owners, jumpers, writers, readers, 1);
         self = r.cpu;
         Stepped {
             cpu: self,

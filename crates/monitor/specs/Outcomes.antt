@@ -6,13 +6,13 @@ use lib.Dec.{eqb}
 use Rattle.common.specs.Answers as answer
 use Rattle.common.specs.Instructions.{reg}
 use Rattle.rules.specs.State.{State}
-use Rattle.rules.specs.Checks.{setA, setJ, setS, isolateVerdict, addVerdict}
+use Rattle.rules.specs.Checks.{setA, setJ, setS, setR, isolateVerdict, addVerdict}
 use Rattle.rules.specs.Step.{owned, joined, joinedServices, joinAt}
 use Rattle.monitor.specs.declared.Isolated.{Isolated}
 -- the caller's numbers and the lent memories, at a service
 pub use Rattle.reach.specs.Called.{called}
 
--- ---- isolate: the answer, the services' sets and the three memories of tags
+-- ---- isolate: the answer, the services' sets and the four memories of tags
 
 pub record Isolating : Type 0 where
   pub answer : ℕ
@@ -20,6 +20,7 @@ pub record Isolating : Type 0 where
   pub owners : List ℕ
   pub jumpers : List ℕ
   pub writers : List ℕ
+  pub readers : List ℕ
 
 -- where the checks answer 0 the tags change as the rules' `isolated` has it, and else nothing does
 unfoldable pub isolating : State → Isolating
@@ -31,6 +32,7 @@ isolating s =
       owners = owned (s .cpu .n) (setA s) (s .cpu .next) (s .owners);
       jumpers = joined (s .cpu .n) (setJ s) (s .cpu .next) (s .jumpers);
       writers = joined (s .cpu .n) (setS s) (s .cpu .next) (s .writers);
+      readers = cond (s .cpu .strict) (joined (s .cpu .n) (setR s) (s .cpu .next) (s .readers)) (s .readers);
     })
     (record {
       answer = isolateVerdict s (s .cpu .prev);
@@ -38,13 +40,14 @@ isolating s =
       owners = s .owners;
       jumpers = s .jumpers;
       writers = s .writers;
+      readers = s .readers;
     })
 
-abbrev pub isolatingOf : Isolated → List ℕ → List ℕ → List ℕ → Isolating
-isolatingOf r owners jumpers writers =
-    record { answer = r .answer; services = r .services; owners = owners; jumpers = jumpers; writers = writers }
+abbrev pub isolatingOf : Isolated → List ℕ → List ℕ → List ℕ → List ℕ → Isolating
+isolatingOf r owners jumpers writers readers =
+    record { answer = r .answer; services = r .services; owners = owners; jumpers = jumpers; writers = writers; readers = readers }
 
--- ---- add jump target and add store target: the answer, and the memory of sets that the target's is in
+-- ---- the adds: the answer, and the memory of sets that the target's is in
 
 pub record Adding : Type 0 where
   pub answer : ℕ

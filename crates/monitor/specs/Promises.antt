@@ -7,20 +7,20 @@ use Rattle.rules.specs.State.{State}
 use Rattle.monitor.specs.Outcomes.{Isolating, isolating, isolatingOf, Adding, adding, addingOf}
 use Rattle.monitor.specs.declared.Isolated.{Isolated}
 
--- isolate's result, and the owners, jumpers and writers at its exit
+-- isolate's result, and the owners, jumpers, writers and readers at its exit
 abbrev IsolateOutcome : Type 0
-IsolateOutcome = Isolated × List ℕ × List ℕ × List ℕ
+IsolateOutcome = Isolated × List ℕ × List ℕ × List ℕ × List ℕ
 
 abbrev isolate-view : View IsolateOutcome Isolating
 isolate-view =
     record {
-      seen = λ o. isolatingOf (o .0) (o .1) (o .2) (o .3);
-      back = λ m. (record { answer = m .answer; services = m .services }, m .owners, m .jumpers, m .writers);
+      seen = λ o. isolatingOf (o .0) (o .1) (o .2) (o .3) (o .4);
+      back = λ m. (record { answer = m .answer; services = m .services }, m .owners, m .jumpers, m .writers, m .readers);
       whole = λ o. refl;
     }
 
-pub isolate-once : (s : State) (o p : IsolateOutcome) → isolatingOf (o .0) (o .1) (o .2) (o .3) ≡ isolating s
-    → isolatingOf (p .0) (p .1) (p .2) (p .3) ≡ isolating s → o ≡ p
+pub isolate-once : (s : State) (o p : IsolateOutcome) → isolatingOf (o .0) (o .1) (o .2) (o .3) (o .4) ≡ isolating s
+    → isolatingOf (p .0) (p .1) (p .2) (p .3) (p .4) ≡ isolating s → o ≡ p
 isolate-once s o p = once isolate-view (isolating s) o p
 
 -- the result of add target, and the sets at its exit

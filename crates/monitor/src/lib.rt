@@ -1,22 +1,26 @@
 // The monitor's services over the caller's numbers and the lent memories: every check by reading first, then the tags are written.
 ghost use mathlib.Core.Path.{_≡_};
 ghost use mathlib.Core.List.{[]};
+ghost use mathlib.Core.Bool.{cond};
+ghost use Rattle.common.specs.AddressSets.{setAt};
 ghost use Rattle.rules.specs.Checks.{isolateVerdict};
+ghost use Rattle.rules.specs.Step.{joined};
 ghost use Rattle.monitor.specs.Outcomes.{called, isolating, isolatingOf, adding, addingOf};
 use memory::word_at;
 
 // Compartment numbers are below this.
 const NUMBERS: u32 = 64;
 
-// The answer, and the sets I of the three services.
+// The answer, and the sets I of the four services.
 pub struct Isolated {
     pub answer: u32,
-    pub services: [u64; 3],
+    pub services: [u64; 4],
 }
 
 // The checks of isolate in the sheet's order.
 fn isolate_verdict(
     regs: &[u32; 16],
+    strict: bool,
     n: u32,
     caller: u32,
     next: u32,
@@ -25,19 +29,32 @@ fn isolate_verdict(
     owners: &[u32],
     jumpers: &[u64],
     writers: &[u64],
+    readers: &[u64],
 ) -> u32
-    ensures { λ r. ⌜ r ≡ isolateVerdict (called (now (regs .entry)) n caller next (now (services .entry)) (now (words .entry)) (now (owners .entry)) (now (jumpers .entry)) (now (writers .entry))) caller ⌝ }
+    ensures { λ r. ⌜ r ≡ isolateVerdict (called strict (now (regs .entry)) n caller next (now (services .entry)) (now (words .entry)) (now (owners .entry)) (now (jumpers .entry)) (now (writers .entry)) (now (readers .entry))) caller ⌝ }
 {
-    if !address_sets::all_good(words, n, regs[1], regs[2], regs[3]) {
+    if !reach::all_good(regs, strict, n, caller, words, owners, readers) {
         return answers::BAD_SET;
     }
     if word_at(words, regs[1]) == 0 {
         return answers::EMPTY_SET;
     }
-    if !reach::all_within(regs, n, caller, services, words, owners, jumpers, writers) {
+    let within = reach::all_within(
+        regs,
+        strict,
+        n,
+        caller,
+        services,
+        words,
+        owners,
+        jumpers,
+        writers,
+        readers,
+    );
+    if !within {
         return answers::NOT_WITHIN;
     }
-    if !reach::returns(regs, n, caller, words, owners) {
+    if !reach::returns(regs, strict, n, caller, words, owners) {
         return answers::NO_RETURN;
     }
     if next == NUMBERS {
@@ -46,22 +63,35 @@ fn isolate_verdict(
     answers::DONE
 }
 
+// A number joins the readers at the words of the set at q, in strict mode alone.
+fn join_readers(strict: bool, readers: &mut [u64], words: &[u32], n: u32, q: u32, number: u32)
+    ensures { λ r. ⌜ now (readers .exit) ≡ cond strict (joined n (setAt (now (words .entry)) q) number (now (readers .entry))) (now (readers .entry)) ⌝ }
+{
+    if !strict {
+        return;
+    }
+    tags::join(readers, words, n, q, number);
+}
+
 // Makes a compartment of what the caller's registers point at, if every check passes.
 pub fn isolate(
     regs: &[u32; 16],
+    strict: bool,
     n: u32,
     caller: u32,
     next: u32,
-    services: [u64; 3],
+    services: [u64; 4],
     words: &[u32],
     owners: &mut [u32],
     jumpers: &mut [u64],
     writers: &mut [u64],
+    readers: &mut [u64],
 ) -> Isolated
-    ensures { λ r. ⌜ isolatingOf r (now (owners .exit)) (now (jumpers .exit)) (now (writers .exit)) ≡ isolating (called (now (regs .entry)) n caller next services (now (words .entry)) (now (owners .entry)) (now (jumpers .entry)) (now (writers .entry))) ⌝ }
+    ensures { λ r. ⌜ isolatingOf r (now (owners .exit)) (now (jumpers .exit)) (now (writers .exit)) (now (readers .exit)) ≡ isolating (called strict (now (regs .entry)) n caller next services (now (words .entry)) (now (owners .entry)) (now (jumpers .entry)) (now (writers .entry)) (now (readers .entry))) ⌝ }
 {
     let answer = isolate_verdict(
         regs,
+        strict,
         n,
         caller,
         next,
@@ -70,6 +100,7 @@ pub fn isolate(
         owners,
         jumpers,
         writers,
+        readers,
     );
     if answer != answers::DONE {
         return Isolated { answer, services };
@@ -77,6 +108,7 @@ pub fn isolate(
     tags::own(owners, words, n, regs[1], next);
     tags::join(jumpers, words, n, regs[2], next);
     tags::join(writers, words, n, regs[3], next);
+    join_readers(strict, readers, words, n, regs[4], next);
     Isolated {
         answer: answers::DONE,
         services: tags::join_services(services, words, regs[2], next),
@@ -84,15 +116,22 @@ pub fn isolate(
 }
 
 // The caller joins the set at the address in r1, if it owns that address and the one to return to.
-pub fn add_target(regs: &[u32; 16], n: u32, caller: u32, owners: &[u32], sets: &mut [u64]) -> u32
-    ensures { λ r. ⌜ addingOf r (now (sets .exit)) ≡ adding (called (now (regs .entry)) n caller 0 [] [] (now (owners .entry)) [] []) (now (sets .entry)) ⌝ }
+pub fn add_target(
+    regs: &[u32; 16],
+    strict: bool,
+    n: u32,
+    caller: u32,
+    owners: &[u32],
+    sets: &mut [u64],
+) -> u32
+    ensures { λ r. ⌜ addingOf r (now (sets .exit)) ≡ adding (called strict (now (regs .entry)) n caller 0 [] [] (now (owners .entry)) [] [] []) (now (sets .entry)) ⌝ }
 {
     let target = regs[1];
     let back = regs[15];
-    if !reach::owns(n, caller, owners, target) {
+    if !reach::owns(strict, n, caller, owners, target) {
         return answers::NOT_OWNED;
     }
-    if !reach::owns(n, caller, owners, back) {
+    if !reach::owns(strict, n, caller, owners, back) {
         return answers::NO_RETURN;
     }
     tags::join_at(sets, target, caller);

@@ -14,16 +14,18 @@ use Rattle.common.specs.Words.{Decoded, decode}
 use Rattle.common.specs.WordLaws.{decoded-small, rd-small}
 use Rattle.common.specs.Instructions.{reg, plus, arithmetic, pcAfter, regsAfter, wordsAfter, jumps}
 use Rattle.common.specs.Services.{isServiceNumber}
-use Rattle.rules.specs.State.{State, inMemory, hasOwner, ownerAt, jumpersAt, writersAt, owns, mayJump, mayStore}
-use Rattle.rules.specs.Checks.{formed, badOwner, arrives, instructionAt, storeVerdict, instructionVerdict, wordVerdict, verdict}
+use Rattle.common.specs.CheckLaws.{cond-same}
+use Rattle.rules.specs.State.{State, inMemory, hasOwner, ownerAt, jumpersAt, writersAt, readersAt, owns, mayJump, mayStore, reads}
+use Rattle.rules.specs.State as rules
+use Rattle.rules.specs.Checks.{formed, badOwner, arrives, instructionAt, storeVerdict, loadVerdict, instructionVerdict, wordVerdict, verdict}
 use Rattle.rules.specs.Step.{ranInstruction, commit, step}
 use Rattle.memory.specs.Places.{putReg, putWord}
-use Rattle.rights.specs.Rights.{free, mayStoreAt}
+use Rattle.rights.specs.Rights.{free, mayUse}
 use Rattle.rights.specs.RightsLaws.{free-below}
 use Rattle.rights.specs.Arrivals.{prevOf, jumpedOf, own-prev, own-still, leapt-prev, leapt-jumped}
 use Rattle.rules.specs.FormLaws.{numbers-good}
 use Rattle.moves.specs.declared.Move.{Move}
-use Rattle.moves.specs.Moves.{no-register, nowhere, arrivesAt, loadMove, storeMove, bnzMove, instructionMove, wordMove, moveOf}
+use Rattle.moves.specs.Moves.{no-register, nowhere, arrivesAt, mayRead, loadMove, storeMove, bnzMove, instructionMove, wordMove, moveOf}
 
 abbrev pub applied : State → Move → State
 applied s m =
@@ -37,16 +39,18 @@ applied s m =
             jumped = jumpedOf (m .arrival);
             next = s .cpu .next;
             services = s .cpu .services;
+            strict = s .cpu .strict;
           };
       words = putWord (s .words) (s .cpu .n) (m .place) (m .word);
       owners = s .owners;
       jumpers = s .jumpers;
       writers = s .writers;
+      readers = s .readers;
     }
 
 abbrev pub moveAt : State → Move
 moveAt s =
-    moveOf (s .cpu .regs) (s .cpu .pc) (s .cpu .prev) (s .cpu .jumped) (s .cpu .next) (s .cpu .n) (s .words) (s .owners) (s .jumpers) (s .writers)
+    moveOf (s .cpu .regs) (s .cpu .pc) (s .cpu .prev) (s .cpu .jumped) (s .cpu .next) (s .cpu .strict) (s .cpu .n) (s .words) (s .owners) (s .jumpers) (s .writers) (s .readers)
 
 -- ---- which of the fourteen an opcode is
 
@@ -100,7 +104,7 @@ opcode o h = low (leb o 7) refl
 
 module _ (s : State) (c : ℕ) (i : Decoded) where
   abbrev m : Move
-  m = instructionMove i (s .cpu .regs) (s .cpu .pc) c (s .cpu .n) (s .words) (s .owners) (s .writers)
+  m = instructionMove i (s .cpu .regs) (s .cpu .pc) c (s .cpu .strict) (s .cpu .n) (s .words) (s .owners) (s .writers) (s .readers)
 
   abbrev x : ℕ
   x = reg (s .cpu .regs) (i .a)
@@ -115,23 +119,34 @@ module _ (s : State) (c : ℕ) (i : Decoded) where
   not-op j = ne-eqb (i .op) j
 
   -- the tests of a Store at a memory word
-  may-store-is : ltb x (s .cpu .n) ≡ true → (owns s c x || mayStore s c x) ≡ mayStoreAt c (getD (s .owners) x 0) (getD (s .writers) x 0)
-  unfolding owns hasOwner ownerAt mayStore writersAt inMemory mayStoreAt
+  may-store-is : ltb x (s .cpu .n) ≡ true → (owns s c x || mayStore s c x) ≡ mayUse c (getD (s .owners) x 0) (getD (s .writers) x 0)
+  unfolding owns hasOwner ownerAt mayStore writersAt inMemory mayUse
   may-store-is h = simp h
 
-  load-answer : loadMove c on (i .b) x (s .cpu .n) (s .words) .answer ≡ cond (inMemory s x) answer.done answer.load-outside
-  unfolding loadMove inMemory
-  load-answer = go (ltb x (s .cpu .n)) refl
+  -- and of a Load
+  may-read-is : ltb x (s .cpu .n) ≡ true → reads s c x ≡ mayRead c x (s .cpu .strict) (s .owners) (s .readers)
+  unfolding reads owns hasOwner ownerAt readersAt inMemory mayUse rules.mayRead
+  may-read-is h = go (s .cpu .strict) refl
     where
-      go : (t : Bool) → ltb x (s .cpu .n) ≡ t → loadMove c on (i .b) x (s .cpu .n) (s .words) .answer ≡ cond (inMemory s x) answer.done answer.load-outside
-      go true h = simp h
-      go false h = simp h
+      go : (m : Bool) → s .cpu .strict ≡ m → reads s c x ≡ mayRead c x (s .cpu .strict) (s .owners) (s .readers)
+      go true e = simp (h, e)
+      go false e = simp e
+
+  load-answer : loadMove c on (i .b) x (s .cpu .strict) (s .cpu .n) (s .words) (s .owners) (s .readers) .answer ≡ loadVerdict s c x
+  unfolding loadMove loadVerdict inMemory
+  load-answer = go (ltb x (s .cpu .n)) (mayRead c x (s .cpu .strict) (s .owners) (s .readers)) refl refl
+    where
+      go : (t u : Bool) → ltb x (s .cpu .n) ≡ t → mayRead c x (s .cpu .strict) (s .owners) (s .readers) ≡ u
+          → loadMove c on (i .b) x (s .cpu .strict) (s .cpu .n) (s .words) (s .owners) (s .readers) .answer ≡ loadVerdict s c x
+      go false u h k = simp h
+      go true true h k = simp (h, k, may-read-is h ∙ k)
+      go true false h k = simp (h, k, may-read-is h ∙ k)
 
   store-answer : storeMove c on x y (s .cpu .n) (s .owners) (s .writers) .answer ≡ storeVerdict s c x
   unfolding storeMove storeVerdict inMemory
-  store-answer = go (ltb x (s .cpu .n)) (mayStoreAt c (getD (s .owners) x 0) (getD (s .writers) x 0)) refl refl
+  store-answer = go (ltb x (s .cpu .n)) (mayUse c (getD (s .owners) x 0) (getD (s .writers) x 0)) refl refl
     where
-      go : (t u : Bool) → ltb x (s .cpu .n) ≡ t → mayStoreAt c (getD (s .owners) x 0) (getD (s .writers) x 0) ≡ u
+      go : (t u : Bool) → ltb x (s .cpu .n) ≡ t → mayUse c (getD (s .owners) x 0) (getD (s .writers) x 0) ≡ u
           → storeMove c on x y (s .cpu .n) (s .owners) (s .writers) .answer ≡ storeVerdict s c x
       go false u h k = simp h
       go true true h k = simp (h, k, may-store-is h ∙ k)
@@ -146,7 +161,7 @@ module _ (s : State) (c : ℕ) (i : Decoded) where
       go false h = simp h
 
   -- the three arms that are moves of their own
-  is-load : i .op ≡ op.load → m ≡ loadMove c on (i .b) x (s .cpu .n) (s .words)
+  is-load : i .op ≡ op.load → m ≡ loadMove c on (i .b) x (s .cpu .strict) (s .cpu .n) (s .words) (s .owners) (s .readers)
   unfolding instructionMove
   is-load e = simp e
 
@@ -186,22 +201,24 @@ module _ (s : State) (c : ℕ) (i : Decoded) where
     unfolding putReg
     none-put value = refl
 
-    load-applies : i .op ≡ op.load → loadMove c on (i .b) x (s .cpu .n) (s .words) .answer ≡ answer.done
-        → applied s (loadMove c on (i .b) x (s .cpu .n) (s .words)) ≡ ranInstruction s c i
+    load-applies : i .op ≡ op.load → loadMove c on (i .b) x (s .cpu .strict) (s .cpu .n) (s .words) (s .owners) (s .readers) .answer ≡ answer.done
+        → applied s (loadMove c on (i .b) x (s .cpu .strict) (s .cpu .n) (s .words) (s .owners) (s .readers)) ≡ ranInstruction s c i
     unfolding loadMove ranInstruction pcAfter regsAfter wordsAfter jumps
-    load-applies e = go (ltb x (s .cpu .n)) refl
+    load-applies e = go (ltb x (s .cpu .n)) (mayRead c x (s .cpu .strict) (s .owners) (s .readers)) refl refl
       where
-        go : (t : Bool) → ltb x (s .cpu .n) ≡ t → loadMove c on (i .b) x (s .cpu .n) (s .words) .answer ≡ answer.done
-            → applied s (loadMove c on (i .b) x (s .cpu .n) (s .words)) ≡ ranInstruction s c i
-        go true h k = simp (h, e, none-stored 0, one-put (i .b) (getD (s .words) x 0) hb, own-prev c hc, own-still c hc)
-        go false h k = let z : _≡_ {A = ℕ} 5 0 = simp h at k in absurd (omega arith)
+        go : (t u : Bool) → ltb x (s .cpu .n) ≡ t → mayRead c x (s .cpu .strict) (s .owners) (s .readers) ≡ u
+            → loadMove c on (i .b) x (s .cpu .strict) (s .cpu .n) (s .words) (s .owners) (s .readers) .answer ≡ answer.done
+            → applied s (loadMove c on (i .b) x (s .cpu .strict) (s .cpu .n) (s .words) (s .owners) (s .readers)) ≡ ranInstruction s c i
+        go true true h k l = simp (h, k, e, none-stored 0, one-put (i .b) (getD (s .words) x 0) hb, own-prev c hc, own-still c hc)
+        go true false h k l = let z : _≡_ {A = ℕ} 17 0 = simp (h, k) at l in absurd (omega arith)
+        go false u h k l = let z : _≡_ {A = ℕ} 5 0 = simp h at l in absurd (omega arith)
 
     store-applies : i .op ≡ op.store → storeMove c on x y (s .cpu .n) (s .owners) (s .writers) .answer ≡ answer.done
         → applied s (storeMove c on x y (s .cpu .n) (s .owners) (s .writers)) ≡ ranInstruction s c i
     unfolding storeMove ranInstruction pcAfter regsAfter wordsAfter jumps putWord
-    store-applies e = go (ltb x (s .cpu .n)) (mayStoreAt c (getD (s .owners) x 0) (getD (s .writers) x 0)) refl refl
+    store-applies e = go (ltb x (s .cpu .n)) (mayUse c (getD (s .owners) x 0) (getD (s .writers) x 0)) refl refl
       where
-        go : (t u : Bool) → ltb x (s .cpu .n) ≡ t → mayStoreAt c (getD (s .owners) x 0) (getD (s .writers) x 0) ≡ u
+        go : (t u : Bool) → ltb x (s .cpu .n) ≡ t → mayUse c (getD (s .owners) x 0) (getD (s .writers) x 0) ≡ u
             → storeMove c on x y (s .cpu .n) (s .owners) (s .writers) .answer ≡ answer.done
             → applied s (storeMove c on x y (s .cpu .n) (s .owners) (s .writers)) ≡ ranInstruction s c i
         go true true h k l = simp (h, k, e, none-put 0, own-prev c hc, own-still c hc)
@@ -244,7 +261,7 @@ module _ (s : State) (w : formed s ≡ true) (k : s .cpu .pc < s .cpu .n) (hn : 
   i = instructionAt s
 
   abbrev word : Move
-  word = wordMove i (s .cpu .regs) (s .cpu .pc) owner (s .cpu .n) (s .words) (s .owners) (s .writers)
+  word = wordMove i (s .cpu .regs) (s .cpu .pc) owner (s .cpu .strict) (s .cpu .n) (s .words) (s .owners) (s .writers) (s .readers)
 
   in-memory : inMemory s (s .cpu .pc) ≡ true
   unfolding inMemory
@@ -254,9 +271,9 @@ module _ (s : State) (w : formed s ≡ true) (k : s .cpu .pc < s .cpu .n) (hn : 
   unfolding ownerAt
   owner-is = simp in-memory
 
-  bad-is : badOwner s ≡ not (free owner (s .cpu .next))
+  bad-is : badOwner s ≡ not (free (s .cpu .strict) owner (s .cpu .next))
   unfolding badOwner free
-  bad-is = simp (in-memory, owner-is) (not-not (isServiceNumber owner || leb (s .cpu .next) owner))
+  bad-is = simp (in-memory, owner-is) (not-not (isServiceNumber (s .cpu .strict) owner || leb (s .cpu .next) owner))
 
   come-is : arrives s ≡ arrivesAt owner (s .cpu .prev) (s .cpu .jumped) (getD (s .jumpers) (s .cpu .pc) 0)
   unfolding arrives arrivesAt mayJump jumpersAt
@@ -274,10 +291,10 @@ module _ (s : State) (w : formed s ≡ true) (k : s .cpu .pc < s .cpu .n) (hn : 
       go true e = simp e (answers s owner i op-known)
       go false e = simp e
 
-  owner-small : free owner (s .cpu .next) ≡ true → owner < 4294967296
-  owner-small f = let b = free-below owner (s .cpu .next) f in let l = numbers-good s w .high in omega arith
+  owner-small : free (s .cpu .strict) owner (s .cpu .next) ≡ true → owner < 4294967296
+  owner-small f = let b = free-below (s .cpu .strict) owner (s .cpu .next) f in let l = numbers-good s w .high in omega arith
 
-  word-applies : free owner (s .cpu .next) ≡ true → word .answer ≡ answer.done → applied s word ≡ ranInstruction s owner i
+  word-applies : free (s .cpu .strict) owner (s .cpu .next) ≡ true → word .answer ≡ answer.done → applied s word ≡ ranInstruction s owner i
   unfolding wordMove instructionAt
   word-applies f = go (eqb (i .answer) answer.done) refl
     where
@@ -291,18 +308,18 @@ module _ (s : State) (w : formed s ≡ true) (k : s .cpu .pc < s .cpu .n) (hn : 
   -- the whole of it: the answer, and the state
   move-answers : moveAt s .answer ≡ verdict s
   unfolding moveOf verdict hasOwner instructionAt
-  move-answers = go (free owner (s .cpu .next)) (arrives s) refl refl
+  move-answers = go (free (s .cpu .strict) owner (s .cpu .next)) (arrives s) refl refl
     where
-      go : (f a : Bool) → free owner (s .cpu .next) ≡ f → arrives s ≡ a → moveAt s .answer ≡ verdict s
+      go : (f a : Bool) → free (s .cpu .strict) owner (s .cpu .next) ≡ f → arrives s ≡ a → moveAt s .answer ≡ verdict s
       go false a e h = simp (w, in-memory, bad-is, e)
       go true false e h = simp (w, in-memory, bad-is, e, h, ← come-is)
       go true true e h = simp (w, in-memory, bad-is, e, h, ← come-is, owner-is) word-answers
 
   move-applies : moveAt s .answer ≡ answer.done → applied s (moveAt s) ≡ commit s
   unfolding moveOf commit instructionAt
-  move-applies = go (free owner (s .cpu .next)) (arrives s) refl refl
+  move-applies = go (free (s .cpu .strict) owner (s .cpu .next)) (arrives s) refl refl
     where
-      go : (f a : Bool) → free owner (s .cpu .next) ≡ f → arrives s ≡ a → moveAt s .answer ≡ answer.done → applied s (moveAt s) ≡ commit s
+      go : (f a : Bool) → free (s .cpu .strict) owner (s .cpu .next) ≡ f → arrives s ≡ a → moveAt s .answer ≡ answer.done → applied s (moveAt s) ≡ commit s
       go false a e h z = let q : _≡_ {A = ℕ} 15 0 = simp e at z in absurd (omega arith)
       go true false e h z = let q : _≡_ {A = ℕ} 4 0 = simp (e, ← come-is, h) at z in absurd (omega arith)
       go true true e h z = simp (e, ← come-is, h, in-memory, owner-is) (word-applies e (simp (e, ← come-is, h) at z))
@@ -323,32 +340,28 @@ module _ (s : State) (w : formed s ≡ true) (k : s .cpu .pc < s .cpu .n) (hn : 
 
 -- ---- who ran passed 15
 
-module _ (i : Decoded) (regs : List ℕ) (pc owner n : ℕ) (words owners writers : List ℕ) (h : owner < 4294967296) where
+module _ (i : Decoded) (regs : List ℕ) (pc owner : ℕ) (strict : Bool) (n : ℕ) (words owners writers readers : List ℕ) (h : owner < 4294967296) where
   whose-cond : (t : Bool) (x y : Move) → prevOf (cond t x y .arrival) ≡ cond t (prevOf (x .arrival)) (prevOf (y .arrival))
   whose-cond true x y = refl
   whose-cond false x y = refl
 
-  cond-same : (t : Bool) (o : ℕ) → cond t o o ≡ o
-  cond-same true o = refl
-  cond-same false o = refl
-
-  word-owner : prevOf (wordMove i regs pc owner n words owners writers .arrival) ≡ owner
+  word-owner : prevOf (wordMove i regs pc owner strict n words owners writers readers .arrival) ≡ owner
   unfolding wordMove instructionMove loadMove storeMove bnzMove
   word-owner = simp (whose-cond, own-prev owner h, leapt-prev owner h, cond-same)
 
-pub move-free : (s : State) → formed s ≡ true → moveAt s .answer ≡ answer.done → moveAt s .arrival < 4294967296 → free (moveAt s .arrival) (s .cpu .next) ≡ true
+pub move-free : (s : State) → formed s ≡ true → moveAt s .answer ≡ answer.done → moveAt s .arrival < 4294967296 → free (s .cpu .strict) (moveAt s .arrival) (s .cpu .next) ≡ true
 unfolding moveOf
-move-free s w = go (free owner (s .cpu .next)) (arrivesAt owner (s .cpu .prev) (s .cpu .jumped) (getD (s .jumpers) (s .cpu .pc) 0)) refl refl
+move-free s w = go (free (s .cpu .strict) owner (s .cpu .next)) (arrivesAt owner (s .cpu .prev) (s .cpu .jumped) (getD (s .jumpers) (s .cpu .pc) 0)) refl refl
   where
     owner : ℕ
     owner = getD (s .owners) (s .cpu .pc) 0
 
-    go : (f a : Bool) → free owner (s .cpu .next) ≡ f → arrivesAt owner (s .cpu .prev) (s .cpu .jumped) (getD (s .jumpers) (s .cpu .pc) 0) ≡ a
-        → moveAt s .answer ≡ answer.done → moveAt s .arrival < 4294967296 → free (moveAt s .arrival) (s .cpu .next) ≡ true
+    go : (f a : Bool) → free (s .cpu .strict) owner (s .cpu .next) ≡ f → arrivesAt owner (s .cpu .prev) (s .cpu .jumped) (getD (s .jumpers) (s .cpu .pc) 0) ≡ a
+        → moveAt s .answer ≡ answer.done → moveAt s .arrival < 4294967296 → free (s .cpu .strict) (moveAt s .arrival) (s .cpu .next) ≡ true
     go false a e h z l = let q : _≡_ {A = ℕ} 15 0 = simp e at z in absurd (omega arith)
     go true false e h z l = let q : _≡_ {A = ℕ} 4 0 = simp (e, h) at z in absurd (omega arith)
     go true true e h z l =
-        let b = free-below owner (s .cpu .next) e in
+        let b = free-below (s .cpu .strict) owner (s .cpu .next) e in
         let c = numbers-good s w .high in
-        let own : prevOf (moveAt s .arrival) ≡ owner = simp (e, h, word-owner (decode (getD (s .words) (s .cpu .pc) 0)) (s .cpu .regs) (s .cpu .pc) owner (s .cpu .n) (s .words) (s .owners) (s .writers) (omega arith)) in
-        ap (λ (o : ℕ). free o (s .cpu .next)) (sym (own-prev (moveAt s .arrival) l) ∙ own) ∙ e
+        let own : prevOf (moveAt s .arrival) ≡ owner = simp (e, h, word-owner (decode (getD (s .words) (s .cpu .pc) 0)) (s .cpu .regs) (s .cpu .pc) owner (s .cpu .strict) (s .cpu .n) (s .words) (s .owners) (s .writers) (s .readers) (omega arith)) in
+        ap (λ (o : ℕ). free (s .cpu .strict) o (s .cpu .next)) (sym (own-prev (moveAt s .arrival) l) ∙ own) ∙ e

@@ -23,9 +23,9 @@ use Rattle.moves.specs.declared.Move.{Move}
 use Rattle.moves.specs.Moves as is
 
 -- ---- one law for each arm: i is decoded; on is pc + 1, x and y the registers that it names
-module _ (i : Decoded) (regs : List ℕ) (pc owner n : ℕ) (words owners writers : List ℕ) (m : Move) where
+module _ (i : Decoded) (regs : List ℕ) (pc owner : ℕ) (strict : Bool) (n : ℕ) (words owners writers readers : List ℕ) (m : Move) where
   abbrev Is : Type 0
-  Is = m ≡ is.instructionMove i regs pc owner n words owners writers
+  Is = m ≡ is.instructionMove i regs pc owner strict n words owners writers readers
 
   abbrev X : ℕ → Type 0
   X x = x ≡ getD regs (i .a) 0
@@ -48,7 +48,7 @@ module _ (i : Decoded) (regs : List ℕ) (pc owner n : ℕ) (words owners writer
   unfolding is.instructionMove
   mov h on eo x ex e = simp (h, e, eo, ex)
 
-  pub load : i .op ≡ 8 → (on : ℕ) → On on → (x : ℕ) → X x → m ≡ is.loadMove owner on (i .b) x n words → Is
+  pub load : i .op ≡ 8 → (on : ℕ) → On on → (x : ℕ) → X x → m ≡ is.loadMove owner on (i .b) x strict n words owners readers → Is
   unfolding is.instructionMove
   load h on eo x ex e = simp (h, e, eo, ex)
 
@@ -98,11 +98,11 @@ no-arm o h k a b c d e f = late o (not-below (ltb o 8) refl) a b c d e f
 
 -- ---- from the fields of a word to the word
 
-module _ (regs : List ℕ) (pc owner n : ℕ) (words owners writers : List ℕ) where
+module _ (regs : List ℕ) (pc owner : ℕ) (strict : Bool) (n : ℕ) (words owners writers readers : List ℕ) where
   abbrev move : Decoded → Move
-  move d = is.wordMove d regs pc owner n words owners writers
+  move d = is.wordMove d regs pc owner strict n words owners writers readers
 
-  taken : (d : Decoded) → d .answer ≡ answer.done → is.instructionMove d regs pc owner n words owners writers ≡ move d
+  taken : (d : Decoded) → d .answer ≡ answer.done → is.instructionMove d regs pc owner strict n words owners writers readers ≡ move d
   unfolding is.wordMove
   taken d h = simp h
 
@@ -138,32 +138,32 @@ module _ (word : ℕ) (i : Fields) (ei : decoded i ≡ fieldsOf word) where
         let done : decode word .answer ≡ answer.done = ap (λ (d : Decoded). d .answer) (sym (whole h) ∙ ei) in
         subst⁻¹ (λ (d : Decoded). 3 ≤ d .op → d .op ≤ 7 → d .low < 16) (whole h) (register word done) a (omega arith)
 
-    module _ (regs : List ℕ) (pc owner n : ℕ) (words owners writers : List ℕ) (m : Move) where
-      pub fits : t ≡ true → m ≡ is.instructionMove (decoded i) regs pc owner n words owners writers
-          → m ≡ is.wordMove (decode word) regs pc owner n words owners writers
-      fits h e = e ∙ taken regs pc owner n words owners writers (decoded i) (ap (λ (d : Decoded). d .answer) ei) ∙ ap (move regs pc owner n words owners writers) (whole h)
+    module _ (regs : List ℕ) (pc owner : ℕ) (strict : Bool) (n : ℕ) (words owners writers readers : List ℕ) (m : Move) where
+      pub fits : t ≡ true → m ≡ is.instructionMove (decoded i) regs pc owner strict n words owners writers readers
+          → m ≡ is.wordMove (decode word) regs pc owner strict n words owners writers readers
+      fits h e = e ∙ taken regs pc owner strict n words owners writers readers (decoded i) (ap (λ (d : Decoded). d .answer) ei) ∙ ap (move regs pc owner strict n words owners writers readers) (whole h)
 
-      pub none : t ≡ false → m ≡ is.stop answer.no-instruction owner → m ≡ is.wordMove (decode word) regs pc owner n words owners writers
-      none h e = e ∙ refused regs pc owner n words owners writers ∙ ap (move regs pc owner n words owners writers) (sym (decode-none word k (sym is-op ∙ ek) l (sym et ∙ h)))
+      pub none : t ≡ false → m ≡ is.stop answer.no-instruction owner → m ≡ is.wordMove (decode word) regs pc owner strict n words owners writers readers
+      none h e = e ∙ refused regs pc owner strict n words owners writers readers ∙ ap (move regs pc owner strict n words owners writers readers) (sym (decode-none word k (sym is-op ∙ ek) l (sym et ∙ h)))
 
   -- no arm
   pub high : (3 ≤ opOf word → opOf word < 8 → ⊥) → NoneOf 3 (i .op) → i .op ≢ 8 → i .op ≢ 9 → i .op ≢ 10 → i .op ≢ 11 → i .op ≢ 12 → i .op ≢ 13
-      → (regs : List ℕ) (pc owner n : ℕ) (words owners writers : List ℕ) (m : Move) → m ≡ is.stop answer.no-instruction owner
-      → m ≡ is.wordMove (decode word) regs pc owner n words owners writers
-  high f k a b c d u v regs pc owner n words owners writers m e =
+      → (regs : List ℕ) (pc owner : ℕ) (strict : Bool) (n : ℕ) (words owners writers readers : List ℕ) (m : Move) → m ≡ is.stop answer.no-instruction owner
+      → m ≡ is.wordMove (decode word) regs pc owner strict n words owners writers readers
+  high f k a b c d u v regs pc owner strict n words owners writers readers m e =
       let o = is-op in
       let h : 14 ≤ i .op = no-arm (i .op) (λ x y. f (omega arith) (omega arith)) k a b c d u v in
-      e ∙ refused regs pc owner n words owners writers ∙ ap (move regs pc owner n words owners writers) (sym (decode-high word (omega arith)))
+      e ∙ refused regs pc owner strict n words owners writers readers ∙ ap (move regs pc owner strict n words owners writers readers) (sym (decode-high word (omega arith)))
 
 -- ---- the instruction at pc: the two stops before it, the three ways to come to it
-module _ (arrival : ℕ) (regs : List ℕ) (pc next n : ℕ) (words owners jumpers writers : List ℕ) (owner : ℕ) (eo : owner ≡ getD owners pc 0) (home : Bool) (eh : home ≡ at.home arrival owner) where
+module _ (arrival : ℕ) (regs : List ℕ) (pc next : ℕ) (strict : Bool) (n : ℕ) (words owners jumpers writers readers : List ℕ) (owner : ℕ) (eo : owner ≡ getD owners pc 0) (home : Bool) (eh : home ≡ at.home arrival owner) where
   abbrev Decides : Move → Type 0
-  Decides m = m ≡ is.moveFrom arrival regs pc next n words owners jumpers writers
+  Decides m = m ≡ is.moveFrom arrival regs pc next strict n words owners jumpers writers readers
 
   abbrev Runs : Type 0
-  Runs = Decides (is.wordMove (decode (getD words pc 0)) regs pc owner n words owners writers)
+  Runs = Decides (is.wordMove (decode (getD words pc 0)) regs pc owner strict n words owners writers readers)
 
-  away : not home ≡ true → is.moveFrom arrival regs pc next n words owners jumpers writers ≡ is.moveOf regs pc (at.prevOf arrival) (at.jumpedOf arrival) next n words owners jumpers writers
+  away : not home ≡ true → is.moveFrom arrival regs pc next strict n words owners jumpers writers readers ≡ is.moveOf regs pc (at.prevOf arrival) (at.jumpedOf arrival) next strict n words owners jumpers writers readers
   unfolding is.moveFrom
   away h = simp (← eo, ← eh, not-true home h)
 
@@ -171,7 +171,7 @@ module _ (arrival : ℕ) (regs : List ℕ) (pc next n : ℕ) (words owners jumpe
   unfolding is.moveFrom
   at-home h = simp (← eo, ← eh, not-false home h)
 
-  module _ (h : not home ≡ true) (f : Bool) (ef : f ≡ free owner next) where
+  module _ (h : not home ≡ true) (f : Bool) (ef : f ≡ free strict owner next) where
     pub not-free : not f ≡ true → (m : Move) → m ≡ is.stop answer.bad-owner owner → Decides m
     unfolding is.moveOf
     not-free hf m e = simp (away h, ← eo, ← ef, not-true f hf, e)
@@ -192,5 +192,5 @@ module _ (arrival : ℕ) (regs : List ℕ) (pc next n : ℕ) (words owners jumpe
           unfolding is.moveOf is.arrivesAt
           by-jump ha = simp (away h, ← eo, ← ef, not-false f hf, ← ep, ← ej, ← es, ← ea, not-false a ha, or-true)
 
-  pub runs : Runs → (word : ℕ) → word ≡ getD words pc 0 → (m : Move) → m ≡ is.wordMove (decode word) regs pc owner n words owners writers → Decides m
-  runs r word ew m e = e ∙ ap (λ (w : ℕ). is.wordMove (decode w) regs pc owner n words owners writers) ew ∙ r
+  pub runs : Runs → (word : ℕ) → word ≡ getD words pc 0 → (m : Move) → m ≡ is.wordMove (decode word) regs pc owner strict n words owners writers readers → Decides m
+  runs r word ew m e = e ∙ ap (λ (w : ℕ). is.wordMove (decode w) regs pc owner strict n words owners writers readers) ew ∙ r

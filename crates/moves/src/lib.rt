@@ -95,11 +95,38 @@ fn reg(regs: &[u32; 16], i: u32) -> u32
     regs[j]
 }
 
-fn load_move(owner: u32, on: u32, rd: u32, x: u32, n: u32, words: &[u32]) -> Move
-    ensures { λ r. ⌜ r ≡ is.loadMove owner on rd x n (now (words .entry)) ⌝ }
+// Reading is free to all, or in strict mode to the target's owner and its readers.
+fn may_read(owner: u32, x: u32, strict: bool, owners: &[u32], readers: &[u64]) -> bool
+    ensures { λ r. ⌜ r ≡ is.mayRead owner x strict (now (owners .entry)) (now (readers .entry)) ⌝ }
+{
+    if !strict {
+        return true;
+    }
+    rights::may_use(
+        owner,
+        memory::word_at(owners, x),
+        memory::set_at(readers, x),
+    )
+}
+
+fn load_move(
+    owner: u32,
+    on: u32,
+    rd: u32,
+    x: u32,
+    strict: bool,
+    n: u32,
+    words: &[u32],
+    owners: &[u32],
+    readers: &[u64],
+) -> Move
+    ensures { λ r. ⌜ r ≡ is.loadMove owner on rd x strict n (now (words .entry)) (now (owners .entry)) (now (readers .entry)) ⌝ }
 {
     if n <= x {
         return stop(answers::LOAD_OUTSIDE, owner);
+    }
+    if !may_read(owner, x, strict, owners, readers) {
+        return stop(answers::LOAD_FORBIDDEN, owner);
     }
     puts(owner, on, rd, memory::word_at(words, x))
 }
@@ -110,7 +137,7 @@ fn store_move(owner: u32, on: u32, x: u32, y: u32, n: u32, owners: &[u32], write
     if n <= x {
         return stop(answers::STORE_OUTSIDE, owner);
     }
-    if !rights::may_store(
+    if !rights::may_use(
         owner,
         memory::word_at(owners, x),
         memory::set_at(writers, x),
@@ -151,13 +178,15 @@ fn other(
     regs: &[u32; 16],
     pc: u32,
     owner: u32,
+    strict: bool,
     n: u32,
     words: &[u32],
     owners: &[u32],
     writers: &[u64],
+    readers: &[u64],
 ) -> Move
     requires { ⌜ (3 ≤ opOf word → opOf word < 8 → ⊥) ⌝ }
-    ensures { λ r. ⌜ r ≡ is.wordMove (decode word) (now (regs .entry)) pc owner n (now (words .entry)) (now (owners .entry)) (now (writers .entry)) ⌝ }
+    ensures { λ r. ⌜ r ≡ is.wordMove (decode word) (now (regs .entry)) pc owner strict n (now (words .entry)) (now (owners .entry)) (now (writers .entry)) (now (readers .entry)) ⌝ }
 {
     let i = instructions::fields(word);
     let op = i.op;
@@ -178,7 +207,17 @@ fn other(
             none(owner)
         },
         8 => if instructions::fits(word, 8) {
-            load_move(owner, after(pc), i.b, reg(regs, i.a), n, words)
+            load_move(
+                owner,
+                after(pc),
+                i.b,
+                reg(regs, i.a),
+                strict,
+                n,
+                words,
+                owners,
+                readers,
+            )
         } else {
             none(owner)
         },
@@ -225,12 +264,14 @@ fn execute(
     regs: &[u32; 16],
     pc: u32,
     owner: u32,
+    strict: bool,
     n: u32,
     words: &[u32],
     owners: &[u32],
     writers: &[u64],
+    readers: &[u64],
 ) -> Move
-    ensures { λ r. ⌜ r ≡ is.wordMove (decode word) (now (regs .entry)) pc owner n (now (words .entry)) (now (owners .entry)) (now (writers .entry)) ⌝ }
+    ensures { λ r. ⌜ r ≡ is.wordMove (decode word) (now (regs .entry)) pc owner strict n (now (words .entry)) (now (owners .entry)) (now (writers .entry)) (now (readers .entry)) ⌝ }
 {
     let i = instructions::fields(word);
     let op = i.op;
@@ -245,7 +286,18 @@ fn execute(
         } else {
             none(owner)
         },
-        _ => other(word, regs, pc, owner, n, words, owners, writers),
+        _ => other(
+            word,
+            regs,
+            pc,
+            owner,
+            strict,
+            n,
+            words,
+            owners,
+            writers,
+            readers,
+        ),
     }
 }
 
@@ -256,17 +308,19 @@ pub fn decide(
     pc: u32,
     arrival: u64,
     next: u32,
+    strict: bool,
     n: u32,
     words: &[u32],
     owners: &[u32],
     jumpers: &[u64],
     writers: &[u64],
+    readers: &[u64],
 ) -> Move
-    ensures { λ r. ⌜ r ≡ is.moveFrom arrival (now (regs .entry)) pc next n (now (words .entry)) (now (owners .entry)) (now (jumpers .entry)) (now (writers .entry)) ⌝ }
+    ensures { λ r. ⌜ r ≡ is.moveFrom arrival (now (regs .entry)) pc next strict n (now (words .entry)) (now (owners .entry)) (now (jumpers .entry)) (now (writers .entry)) (now (readers .entry)) ⌝ }
 {
     let owner = memory::word_at(owners, pc);
     if !arrival::is_home(arrival, owner) {
-        if !rights::is_free(owner, next) {
+        if !rights::is_free(strict, owner, next) {
             return stop(answers::BAD_OWNER, owner);
         }
         let prev = arrival::prev_of(arrival);
@@ -285,9 +339,11 @@ pub fn decide(
         regs,
         pc,
         owner,
+        strict,
         n,
         words,
         owners,
         writers,
+        readers,
     )
 }

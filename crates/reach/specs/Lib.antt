@@ -2,4 +2,5 @@
 pub mod Called
 pub mod WalkLaws
 pub mod ReachLaws
+pub mod ReadLaws
 pub mod Promises

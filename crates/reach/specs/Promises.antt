@@ -5,11 +5,15 @@ use mathlib.Core.List.{List, []}
 use Prim.Native.Nat.{ℕ}
 use Rattle.common.specs.Promise.{once, itself}
 use Rattle.rules.specs.State.{State, owns}
-use Rattle.rules.specs.Checks.{setsWithin, returns}
+use Rattle.rules.specs.Checks.{goodSets, setsWithin, returns}
 use Rattle.reach.specs.Called.{asked}
 
-pub owns-once : (n caller : ℕ) (owners : List ℕ) (x : ℕ) (r p : Bool) → r ≡ owns (asked n owners [] []) caller x → p ≡ owns (asked n owners [] []) caller x → r ≡ p
-owns-once n caller owners x r p = once itself (owns (asked n owners [] []) caller x) r p
+pub owns-once : (strict : Bool) (n caller : ℕ) (owners : List ℕ) (x : ℕ) (r p : Bool) → r ≡ owns (asked strict n owners [] []) caller x
+    → p ≡ owns (asked strict n owners [] []) caller x → r ≡ p
+owns-once strict n caller owners x r p = once itself (owns (asked strict n owners [] []) caller x) r p
+
+pub all-good-once : (s : State) (caller : ℕ) (r p : Bool) → r ≡ goodSets s caller → p ≡ goodSets s caller → r ≡ p
+all-good-once s caller r p = once itself (goodSets s caller) r p
 
 pub all-within-once : (s : State) (caller : ℕ) (r p : Bool) → r ≡ setsWithin s caller → p ≡ setsWithin s caller → r ≡ p
 all-within-once s caller r p = once itself (setsWithin s caller) r p

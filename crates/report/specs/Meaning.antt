@@ -6,11 +6,12 @@ use Prim.Native.Nat.{ℕ, zero, suc, _+_, _-_, _≤_, _<_, min, max}
 use native.Mathlib.Omega.{arith}
 use native.Mathlib.Nat.{zero-add, add-zero, add-suc, add-assoc}
 use native.Mathlib.Decide.{ℕ-discrete}
-use borrow.Author.Tests.{le-ltb, lt-leb, ltb-true, ltb-false}
+use borrow.Author.Tests.{le-ltb, ltb-true, ltb-false}
 use lib.Dec.{ltb}
 use lib.ListN.{getD, length}
 use Rattle.common.specs.Instructions.{bit}
-use Rattle.common.specs.Services.{serviceCount, isService}
+use Rattle.common.specs.Services.{isolate, serviceCount, isService}
+use Rattle.common.specs.ServiceLaws.{no-service}
 use Rattle.paper.specs.Abstract as paper
 use Rattle.rules.specs.Compartments.{size}
 use Rattle.rules.specs.CompartmentLaws.{member-empty}
@@ -22,8 +23,8 @@ use Rattle.rules.specs.Counts.{countFrom, addressCount, ownedCount, jumpCount, 
 use Rattle.report.specs.CountLaws.{count-same}
 
 -- the first address past the services
-abbrev pub past : ℕ
-past = 4099
+abbrev pub past : Bool → ℕ
+past strict = isolate + serviceCount strict
 
 -- ---- a count in two parts, and one in which nothing passes
 
@@ -43,15 +44,14 @@ count-false x (suc k) = ap (λ (m : ℕ). m + 0) (count-false x k)
 
 -- only words and services pass the test
 abbrev Held : State → (ℕ → Bool) → Type 0
-Held s test = (x : ℕ) → inMemory s x ≡ false → isService x ≡ false → test x ≡ false
+Held s test = (x : ℕ) → inMemory s x ≡ false → isService (s .cpu .strict) x ≡ false → test x ≡ false
 
-between : (n y : ℕ) → n ≤ y → y < 4096 → (ltb y n ≡ false) × (isService y ≡ false)
-unfolding isService
-between n y l u = (le-ltb y n l, simp (lt-leb 4096 y u))
+between : (m : Bool) (n y : ℕ) → n ≤ y → y < 4096 → (ltb y n ≡ false) × (isService m y ≡ false)
+between m n y l u = (le-ltb y n l, no-service m y u)
 
-far : (s : State) (y : ℕ) → s .cpu .n ≤ 2048 → past ≤ y → (inMemory s y ≡ false) × (isService y ≡ false)
-unfolding inMemory isService serviceCount
-far s y m l = (le-ltb y (s .cpu .n) (omega arith), simp (le-ltb y 4099 l, and-false))
+far : (s : State) (y : ℕ) → s .cpu .n ≤ 2048 → past (s .cpu .strict) ≤ y → (inMemory s y ≡ false) × (isService (s .cpu .strict) y ≡ false)
+unfolding inMemory isService
+far s y m l = (le-ltb y (s .cpu .n) (omega arith), simp (le-ltb y (past (s .cpu .strict)) l, and-false))
 
 module _ (s : State) (list : List ℕ) (test : ℕ → Bool) (held : Held s test) (small : s .cpu .n ≤ 2048) (enough : s .cpu .n ≤ length list) where
   abbrev n : ℕ
@@ -60,7 +60,7 @@ module _ (s : State) (list : List ℕ) (test : ℕ → Bool) (held : Held s test
   gap : countFrom test n (4096 - n) ≡ 0
   unfolding inMemory
   gap =
-      count-same test (λ _. false) n (4096 - n) (λ y l u. let t = between n y l (omega arith) in held y (t .0) (t .1)) ∙ count-false n (4096 - n)
+      count-same test (λ _. false) n (4096 - n) (λ y l u. let t = between (s .cpu .strict) n y l (omega arith) in held y (t .0) (t .1)) ∙ count-false n (4096 - n)
 
   front : countFrom test 0 4096 ≡ countFrom test 0 n
   front =
@@ -68,15 +68,18 @@ module _ (s : State) (list : List ℕ) (test : ℕ → Bool) (held : Held s test
       ap (countFrom test 0) (sym e) ∙ count-split test 0 n (4096 - n) ∙ ap (λ (x : ℕ). countFrom test 0 n + countFrom test x (4096 - n)) (zero-add n)
       ∙ ap (λ (x : ℕ). countFrom test 0 n + x) gap ∙ add-zero (countFrom test 0 n)
 
-  back : countFrom (λ x. not (inMemory s x) && test x) 4096 3 ≡ countFrom test 4096 3
-  unfolding inMemory
-  back = count-same (λ x. not (ltb x n) && test x) test 4096 3 (λ y l u. simp (le-ltb y n (omega arith)))
+  abbrev k : ℕ
+  k = serviceCount (s .cpu .strict)
 
-  all-counted : addressCount s list test ≡ countFrom test 0 past
-  unfolding addressCount serviceCount
+  back : countFrom (λ x. not (inMemory s x) && test x) 4096 k ≡ countFrom test 4096 k
+  unfolding inMemory
+  back = count-same (λ x. not (ltb x n) && test x) test 4096 k (λ y l u. simp (le-ltb y n (omega arith)))
+
+  all-counted : addressCount s list test ≡ countFrom test 0 (past (s .cpu .strict))
+  unfolding addressCount
   all-counted =
       let e : min n (length list) ≡ n = omega arith in
-      ap₂ (λ (x y : ℕ). x + y) (ap (countFrom test 0) e ∙ sym front) back ∙ sym (count-split test 0 4096 3)
+      ap₂ (λ (x y : ℕ). x + y) (ap (countFrom test 0) e ∙ sym front) back ∙ sym (count-split test 0 4096 k)
 
 module _ (s : State) (c : ℕ) where
   held-owns : Held s (owns s c)
@@ -93,10 +96,10 @@ module _ (s : State) (c : ℕ) where
 
 -- each count is how many addresses there are, all those past the services being nobody's
 pub record Counts (s : State) (c : ℕ) : Type 0 where
-  pub owned : ownedCount s c ≡ countFrom (owns s c) 0 past
-  pub jumps : jumpCount s c ≡ countFrom (mayJump s c) 0 past
-  pub stores : storeCount s c ≡ countFrom (mayStore s c) 0 past
-  pub beyond : (x : ℕ) → past ≤ x → (owns s c x ≡ false) × (mayJump s c x ≡ false) × (mayStore s c x ≡ false)
+  pub owned : ownedCount s c ≡ countFrom (owns s c) 0 (past (s .cpu .strict))
+  pub jumps : jumpCount s c ≡ countFrom (mayJump s c) 0 (past (s .cpu .strict))
+  pub stores : storeCount s c ≡ countFrom (mayStore s c) 0 (past (s .cpu .strict))
+  pub beyond : (x : ℕ) → past (s .cpu .strict) ≤ x → (owns s c x ≡ false) × (mayJump s c x ≡ false) × (mayStore s c x ≡ false)
 
 pub counts : (s : State) (c : ℕ) → sized s ≡ true → Counts s c
 unfolding ownedCount jumpCount storeCount
@@ -117,13 +120,13 @@ counts s c h =
 -- ---- of the paper's compartments
 
 pub matched : (s : State) (a : paper.State) (c : ℕ) → sized s ≡ true → Match s a
-    → (ownedCount s c ≡ countFrom (paper.A-of a c) 0 past) × (jumpCount s c ≡ countFrom (paper.J-of a c) 0 past) × (storeCount s c ≡ countFrom (paper.S-of a c) 0 past)
+    → (ownedCount s c ≡ countFrom (paper.A-of a c) 0 (past (s .cpu .strict))) × (jumpCount s c ≡ countFrom (paper.J-of a c) 0 (past (s .cpu .strict))) × (storeCount s c ≡ countFrom (paper.S-of a c) 0 (past (s .cpu .strict)))
 matched s a c h m =
     let k = counts s c h in
     (k .owned ∙ same (m .A c), k .jumps ∙ same (m .J c), k .stores ∙ same (m .S c))
   where
-    same : {t u : ℕ → Bool} → ((x : ℕ) → t x ≡ u x) → countFrom u 0 past ≡ countFrom t 0 past
-    same {t} {u} e = count-same u t 0 past (λ x l k. sym (e x))
+    same : {t u : ℕ → Bool} → ((x : ℕ) → t x ≡ u x) → countFrom u 0 (past (s .cpu .strict)) ≡ countFrom t 0 (past (s .cpu .strict))
+    same {t} {u} e = count-same u t 0 (past (s .cpu .strict)) (λ x l k. sym (e x))
 
 -- ---- the most widely writable word
 

@@ -9,32 +9,32 @@ use Rattle.machine.specs.declared.Processor.{Processor}
 use Rattle.machine.specs.Views.{stateOf}
 
 module _ (cpu : Processor) (owners : List ℕ) (c : ℕ) where
-  pub owned-once : (r q : ℕ) → r ≡ ownedCount (stateOf cpu [] owners [] []) c → q ≡ ownedCount (stateOf cpu [] owners [] []) c → r ≡ q
-  owned-once r q = once itself (ownedCount (stateOf cpu [] owners [] []) c) r q
+  pub owned-once : (r q : ℕ) → r ≡ ownedCount (stateOf cpu [] owners [] [] []) c → q ≡ ownedCount (stateOf cpu [] owners [] [] []) c → r ≡ q
+  owned-once r q = once itself (ownedCount (stateOf cpu [] owners [] [] []) c) r q
 
-  pub owned-whole : (words jumpers writers : List ℕ) → ownedCount (stateOf cpu words owners jumpers writers) c ≡ ownedCount (stateOf cpu [] owners [] []) c
+  pub owned-whole : (words jumpers writers readers : List ℕ) → ownedCount (stateOf cpu words owners jumpers writers readers) c ≡ ownedCount (stateOf cpu [] owners [] [] []) c
   unfolding ownedCount addressCount owns hasOwner ownerAt inMemory
-  owned-whole words jumpers writers = refl
+  owned-whole words jumpers writers readers = refl
 
 module _ (cpu : Processor) (jumpers : List ℕ) (c : ℕ) where
-  pub jumps-once : (r q : ℕ) → r ≡ jumpCount (stateOf cpu [] [] jumpers []) c → q ≡ jumpCount (stateOf cpu [] [] jumpers []) c → r ≡ q
-  jumps-once r q = once itself (jumpCount (stateOf cpu [] [] jumpers []) c) r q
+  pub jumps-once : (r q : ℕ) → r ≡ jumpCount (stateOf cpu [] [] jumpers [] []) c → q ≡ jumpCount (stateOf cpu [] [] jumpers [] []) c → r ≡ q
+  jumps-once r q = once itself (jumpCount (stateOf cpu [] [] jumpers [] []) c) r q
 
-  pub jumps-whole : (words owners writers : List ℕ) → jumpCount (stateOf cpu words owners jumpers writers) c ≡ jumpCount (stateOf cpu [] [] jumpers []) c
+  pub jumps-whole : (words owners writers readers : List ℕ) → jumpCount (stateOf cpu words owners jumpers writers readers) c ≡ jumpCount (stateOf cpu [] [] jumpers [] []) c
   unfolding jumpCount addressCount mayJump jumpersAt inMemory
-  jumps-whole words owners writers = refl
+  jumps-whole words owners writers readers = refl
 
 module _ (cpu : Processor) (writers : List ℕ) where
-  pub stores-once : (c r q : ℕ) → r ≡ storeCount (stateOf cpu [] [] [] writers) c → q ≡ storeCount (stateOf cpu [] [] [] writers) c → r ≡ q
-  stores-once c r q = once itself (storeCount (stateOf cpu [] [] [] writers) c) r q
+  pub stores-once : (c r q : ℕ) → r ≡ storeCount (stateOf cpu [] [] [] writers []) c → q ≡ storeCount (stateOf cpu [] [] [] writers []) c → r ≡ q
+  stores-once c r q = once itself (storeCount (stateOf cpu [] [] [] writers []) c) r q
 
-  pub stores-whole : (c : ℕ) (words owners jumpers : List ℕ) → storeCount (stateOf cpu words owners jumpers writers) c ≡ storeCount (stateOf cpu [] [] [] writers) c
+  pub stores-whole : (c : ℕ) (words owners jumpers readers : List ℕ) → storeCount (stateOf cpu words owners jumpers writers readers) c ≡ storeCount (stateOf cpu [] [] [] writers []) c
   unfolding storeCount addressCount mayStore writersAt inMemory
-  stores-whole c words owners jumpers = refl
+  stores-whole c words owners jumpers readers = refl
 
-  pub widest-once : (r q : ℕ) → r ≡ widest (stateOf cpu [] [] [] writers) → q ≡ widest (stateOf cpu [] [] [] writers) → r ≡ q
-  widest-once r q = once itself (widest (stateOf cpu [] [] [] writers)) r q
+  pub widest-once : (r q : ℕ) → r ≡ widest (stateOf cpu [] [] [] writers []) → q ≡ widest (stateOf cpu [] [] [] writers []) → r ≡ q
+  widest-once r q = once itself (widest (stateOf cpu [] [] [] writers [])) r q
 
-  pub widest-whole : (words owners jumpers : List ℕ) → widest (stateOf cpu words owners jumpers writers) ≡ widest (stateOf cpu [] [] [] writers)
+  pub widest-whole : (words owners jumpers readers : List ℕ) → widest (stateOf cpu words owners jumpers writers readers) ≡ widest (stateOf cpu [] [] [] writers [])
   unfolding widest
-  widest-whole words owners jumpers = refl
+  widest-whole words owners jumpers readers = refl

@@ -1,14 +1,15 @@
 -- The compartment lines that the run program prints of image one and image two, by computation over the definitions.
 use mathlib.Core.Path.{_≡_, refl}
-use mathlib.Core.List.{List}
+use mathlib.Core.Bool.{false}
+use mathlib.Core.List.{List, []}
 use Prim.Native.Nat.{ℕ}
 use lib.ListN.{replicate}
 use Rattle.common.specs.Words.{row, allowed, decode}
 use Rattle.common.specs.Instructions.{arithmetic, offset, displaced, branch, pcAfter, regsAfter, wordsAfter, jumps}
 use Rattle.common.specs.Services.{serviceCount, isService, serviceAt, isServiceNumber}
 use Rattle.common.specs.AddressSets.{pairsAt, setAt, inside, ordered, goodSet, isEmpty, inSet, allFrom, within}
-use Rattle.rules.specs.Compartments.{member, insert, services, main, sizeBelow}
-use Rattle.rules.specs.State.{State, firstNumber, inMemory, hasOwner, ownerAt, jumpersAt, writersAt, owns, mayJump, mayStore}
+use Rattle.rules.specs.Compartments.{member, insert, upTo, services, main, sizeBelow}
+use Rattle.rules.specs.State.{State, firstNumber, inMemory, hasOwner, ownerAt, jumpersAt, writersAt, readersAt, owns, mayJump, mayStore, mayRead, reads}
 use Rattle.rules.specs.Checks as checks
 use Rattle.rules.specs.Step as step
 use Rattle.rules.specs.Run.{run}
@@ -19,11 +20,11 @@ use Rattle.rules.specs.Samples.{image-one, image-two}
 -- memories longer than N, with tags beyond it that would be counted were they looked at
 abbrev lent : State
 lent =
-    record { cpu = blank; words = replicate 20 0; owners = replicate 20 0; jumpers = replicate 20 31; writers = replicate 20 31 }
+    record { cpu = blank false; words = replicate 20 0; owners = replicate 20 0; jumpers = replicate 20 31; writers = replicate 20 31; readers = [] }
 
 -- no registers, entry 0; at most 100,000 steps
 abbrev left : List ℕ → State
-left words = run 100000 (load (imageBytes words (replicate 16 0) 0) lent .state) .state
+left words = run 100000 (load false (imageBytes words (replicate 16 0) 0) lent .state) .state
 
 pub record Row : Type 0 where
   pub number : ℕ
@@ -51,7 +52,7 @@ pub record SheetRows : Type 0 where
   pub two-widest : widest (left image-two) ≡ 0
 
 pub sheet-rows : SheetRows
-unfolding countFrom addressCount ownedCount jumpCount storeCount mostOnes widest sizeBelow row allowed decode arithmetic offset displaced branch pcAfter regsAfter wordsAfter jumps serviceCount isService serviceAt isServiceNumber pairsAt setAt inside ordered goodSet isEmpty inSet allFrom within member insert services main firstNumber inMemory hasOwner ownerAt jumpersAt writersAt owns mayJump mayStore checks.sameLengths checks.sized checks.numbered checks.seated checks.formed checks.badOwner checks.arrives checks.instructionAt checks.storeVerdict checks.instructionVerdict checks.wordVerdict checks.goodSets checks.setsWithin checks.returns checks.isolateVerdict checks.addVerdict checks.serviceVerdict checks.verdict step.ranInstruction step.mapFrom step.owned step.joined step.joinedServices step.isolated step.jumpAdded step.storeAdded step.ranService step.commit step.step run field fields entryVerdict lastListed registersVerdict imageVerdict blank loaded notLoaded loadVerdict load allBytes section listed imageBytes
+unfolding countFrom addressCount ownedCount jumpCount storeCount mostOnes widest sizeBelow row allowed decode arithmetic offset displaced branch pcAfter regsAfter wordsAfter jumps serviceCount isService serviceAt isServiceNumber pairsAt setAt inside ordered goodSet isEmpty inSet allFrom within member insert upTo services main firstNumber inMemory hasOwner ownerAt jumpersAt writersAt readersAt owns mayJump mayStore mayRead reads checks.sameLengths checks.sized checks.numbered checks.seated checks.formed checks.badOwner checks.arrives checks.instructionAt checks.storeVerdict checks.loadVerdict checks.instructionVerdict checks.wordVerdict checks.goodSets checks.setsWithin checks.returns checks.isolateVerdict checks.addVerdict checks.serviceVerdict checks.verdict step.ranInstruction step.mapFrom step.owned step.joined step.joinedServices step.isolated step.jumpAdded step.storeAdded step.readAdded step.ranService step.commit step.step run field fields entryVerdict lastListed registersVerdict imageVerdict blank loaded notLoaded loadVerdict load allBytes section listed imageBytes
 sheet-rows =
     record {
       one-0 = refl;

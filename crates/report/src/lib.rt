@@ -7,12 +7,13 @@ ghost use lib.ListN.{length};
 ghost use Rattle.common.specs.Instructions.{bit};
 ghost use Rattle.rules.specs.Counts.{ownedCount, jumpCount, storeCount, widest};
 ghost use Rattle.machine.specs.Views.{stateOf};
-ghost use Rattle.report.specs.CountLaws.{placesOwned, placesWith, outside, three};
-use address_sets::ADD_JUMP_TARGET;
-use address_sets::ADD_STORE_TARGET;
-use address_sets::ISOLATE;
+ghost use Rattle.report.specs.CountLaws.{placesOwned, placesWith, outside, four};
 use compartments::Set;
 use machine::Processor;
+use modes::ADD_JUMP_TARGET;
+use modes::ADD_READ_TARGET;
+use modes::ADD_STORE_TARGET;
+use modes::ISOLATE;
 
 // How many places are looked at.
 fn least(n: u32, length: usize) -> usize
@@ -70,43 +71,52 @@ fn service(n: u32, x: u32, has: bool) -> u32
     0
 }
 
-// How many of the three services have the number.
-fn services(n: u32, isolate: bool, jump: bool, store: bool) -> u32
-    ensures { λ r. ⌜ r ≡ three n isolate jump store ⌝ }
+// How many of the services have the number; the fourth is one in strict mode alone.
+fn services(strict: bool, n: u32, isolate: bool, jump: bool, store: bool, read: bool) -> u32
+    ensures { λ r. ⌜ r ≡ four strict n isolate jump store read ⌝ }
 {
-    service(n, ISOLATE, isolate)
+    let three = service(n, ISOLATE, isolate)
         + service(n, ADD_JUMP_TARGET, jump)
-        + service(n, ADD_STORE_TARGET, store)
+        + service(n, ADD_STORE_TARGET, store);
+    if !strict {
+        return three;
+    }
+    three + service(n, ADD_READ_TARGET, read)
 }
 
 // The addresses that a compartment owns, services counted.
 pub fn owned(cpu: Processor, owners: &[u32], number: u32) -> u32
-    ensures { λ r. ⌜ r ≡ ownedCount (stateOf cpu [] (now (owners .entry)) [] []) number ⌝ }
+    ensures { λ r. ⌜ r ≡ ownedCount (stateOf cpu [] (now (owners .entry)) [] [] []) number ⌝ }
 {
-    // 1, 2 and 3 own a service each
-    places_owned(owners, cpu.n, number) + services(cpu.n, number == 1, number == 2, number == 3)
+    // the numbers from 1 on own a service each
+    let isolate = number == 1;
+    let jump = number == 2;
+    let store = number == 3;
+    let read = number == 4;
+    places_owned(owners, cpu.n, number) + services(cpu.strict, cpu.n, isolate, jump, store, read)
 }
 
 // The addresses that a compartment may jump to, services counted.
 pub fn jumps(cpu: Processor, jumpers: &[u64], number: u32) -> u32
-    ensures { λ r. ⌜ r ≡ jumpCount (stateOf cpu [] [] (now (jumpers .entry)) []) number ⌝ }
+    ensures { λ r. ⌜ r ≡ jumpCount (stateOf cpu [] [] (now (jumpers .entry)) [] []) number ⌝ }
 {
     let isolate = Set(cpu.services[0]).contains(number);
     let jump = Set(cpu.services[1]).contains(number);
     let store = Set(cpu.services[2]).contains(number);
-    places_with(jumpers, cpu.n, number) + services(cpu.n, isolate, jump, store)
+    let read = Set(cpu.services[3]).contains(number);
+    places_with(jumpers, cpu.n, number) + services(cpu.strict, cpu.n, isolate, jump, store, read)
 }
 
 // The addresses that a compartment may store to. No service is among them.
 pub fn stores(cpu: Processor, writers: &[u64], number: u32) -> u32
-    ensures { λ r. ⌜ r ≡ storeCount (stateOf cpu [] [] [] (now (writers .entry))) number ⌝ }
+    ensures { λ r. ⌜ r ≡ storeCount (stateOf cpu [] [] [] (now (writers .entry)) []) number ⌝ }
 {
     places_with(writers, cpu.n, number)
 }
 
 // The most compartments that may write to any one word below N.
 pub fn widest(cpu: Processor, writers: &[u64]) -> u32
-    ensures { λ r. ⌜ r ≡ widest (stateOf cpu [] [] [] (now (writers .entry))) ⌝ }
+    ensures { λ r. ⌜ r ≡ widest (stateOf cpu [] [] [] (now (writers .entry)) []) ⌝ }
 {
     let places = least(cpu.n, writers.len());
     let mut most: u32 = 0;

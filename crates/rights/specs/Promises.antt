@@ -4,17 +4,17 @@ use mathlib.Core.Bool.{Bool, _&&_}
 use Prim.Native.Nat.{ℕ}
 use Rattle.common.specs.Promise.{once, itself}
 use Rattle.rules.specs.Compartments.{member}
-use Rattle.rights.specs.Rights.{free, mayStoreAt}
+use Rattle.rights.specs.Rights.{free, mayUse}
 use Rattle.rights.specs.Arrivals.{prevOf, jumpedOf, unasked, home}
 
-pub is-free-once : (owner next : ℕ) (r q : Bool) → r ≡ free owner next → q ≡ free owner next → r ≡ q
-is-free-once owner next r q = once itself (free owner next) r q
+pub is-free-once : (strict : Bool) (owner next : ℕ) (r q : Bool) → r ≡ free strict owner next → q ≡ free strict owner next → r ≡ q
+is-free-once strict owner next r q = once itself (free strict owner next) r q
 
 pub jumped-in-once : (prev : ℕ) (jumped : Bool) (jumpers : ℕ) (r q : Bool) → r ≡ (jumped && member jumpers prev) → q ≡ (jumped && member jumpers prev) → r ≡ q
 jumped-in-once prev jumped jumpers r q = once itself (jumped && member jumpers prev) r q
 
-pub may-store-once : (owner target writers : ℕ) (r q : Bool) → r ≡ mayStoreAt owner target writers → q ≡ mayStoreAt owner target writers → r ≡ q
-may-store-once owner target writers r q = once itself (mayStoreAt owner target writers) r q
+pub may-use-once : (owner target granted : ℕ) (r q : Bool) → r ≡ mayUse owner target granted → q ≡ mayUse owner target granted → r ≡ q
+may-use-once owner target granted r q = once itself (mayUse owner target granted) r q
 
 pub unasked-once : (prev : ℕ) (jumped : Bool) (r q : ℕ) → r ≡ unasked prev jumped → q ≡ unasked prev jumped → r ≡ q
 unasked-once prev jumped r q = once itself (unasked prev jumped) r q

@@ -11,7 +11,8 @@ use Rattle.common.specs.Services as service
 use Rattle.rules.specs.Compartments.{member, empty}
 use Rattle.rules.specs.State.{State}
 use Rattle.monitor.specs.Outcomes.{called, Isolating, isolating, Adding, adding}
-use Rattle.service.specs.Served.{isolatedBy, addedBy, grown, callOf, addOf, adds-jump, adds-store, nowhere, serving}
+use Rattle.service.specs.Served.{isolatedBy, addedBy, grown, servedOf, callOf, addOf, adds-jump, adds-store, adds-read, serving}
+use Rattle.service.specs.declared.Served.{Served}
 
 pub not-grown : (a next : ℕ) → a ≢ answer.done → next ≡ grown a next
 unfolding grown
@@ -24,7 +25,7 @@ one-grown a next h r e = simp h e
 -- t: whether the caller arrives
 module _ (jumped : Bool) (s : State) (t : Bool) (e : t ≡ (jumped && member (getD (s .cpu .services) 0 empty) (s .cpu .prev))) where
   pub isolate-no-arrival : not t ≡ true
-      → record { answer = answer.no-arrival; services = s .cpu .services; owners = s .owners; jumpers = s .jumpers; writers = s .writers } ≡ isolatedBy jumped s
+      → record { answer = answer.no-arrival; services = s .cpu .services; owners = s .owners; jumpers = s .jumpers; writers = s .writers; readers = s .readers } ≡ isolatedBy jumped s
   unfolding isolatedBy
   isolate-no-arrival h = simp (sym e ∙ not-true t h)
 
@@ -32,17 +33,21 @@ module _ (jumped : Bool) (s : State) (t : Bool) (e : t ≡ (jumped && member (ge
   unfolding isolatedBy
   isolate-arrives h o i = simp (sym e ∙ not-false t h) i
 
-module _ (regs : List ℕ) (n prev : ℕ) (jumped : Bool) (gate : ℕ) (owners sets : List ℕ) (t : Bool) (e : t ≡ (jumped && member gate prev)) where
-  pub add-no-arrival : not t ≡ true → record { answer = answer.no-arrival; sets = sets } ≡ addedBy regs n prev jumped gate owners sets
+module _ (strict : Bool) (regs : List ℕ) (n prev : ℕ) (jumped : Bool) (gate : ℕ) (owners sets : List ℕ) (t : Bool) (e : t ≡ (jumped && member gate prev)) where
+  pub add-no-arrival : not t ≡ true → record { answer = answer.no-arrival; sets = sets } ≡ addedBy strict regs n prev jumped gate owners sets
   unfolding addedBy
   add-no-arrival h = simp (sym e ∙ not-true t h)
 
-  pub add-arrives : not t ≡ false → (o : Adding) → o ≡ adding (called regs n prev 0 [] [] owners [] []) sets → o ≡ addedBy regs n prev jumped gate owners sets
+  pub add-arrives : not t ≡ false → (o : Adding) → o ≡ adding (called strict regs n prev 0 [] [] owners [] [] []) sets → o ≡ addedBy strict regs n prev jumped gate owners sets
   unfolding addedBy
   add-arrives h o i = simp (sym e ∙ not-false t h) i
 
 -- which service it is
 module _ (s : State) where
+  -- the result where it is none
+  abbrev none : Served
+  none = record { answer = answer.no-place; number = 0; next = s .cpu .next; services = s .cpu .services }
+
   pub at-isolate : s .cpu .pc ≡ service.isolate → (o : Isolating) → o ≡ isolatedBy (s .cpu .jumped) (callOf s) → (next : ℕ) → next ≡ grown (o .answer) (s .cpu .next)
       → record {
         answer = o .answer;
@@ -52,6 +57,7 @@ module _ (s : State) where
         owners = o .owners;
         jumpers = o .jumpers;
         writers = o .writers;
+        readers = o .readers;
       } ≡ serving s
   unfolding serving
   at-isolate h o i next g = simp (h, ← i, g)
@@ -64,6 +70,17 @@ module _ (s : State) where
   unfolding serving
   at-store h o i = simp (h, i)
 
-  pub at-none : s .cpu .pc ≢ service.isolate → s .cpu .pc ≢ service.add-jump-target → s .cpu .pc ≢ service.add-store-target → nowhere s ≡ serving s
+  pub at-read : s .cpu .pc ≡ service.add-read-target → not (s .cpu .strict) ≡ false → (o : Adding) → o ≡ addOf s 3 (s .readers) → adds-read s o ≡ serving s
   unfolding serving
-  at-none a b c = simp (ne-eqb (s .cpu .pc) service.isolate a, ne-eqb (s .cpu .pc) service.add-jump-target b, ne-eqb (s .cpu .pc) service.add-store-target c)
+  at-read h m o i = simp (h, not-false (s .cpu .strict) m, i)
+
+  -- there is no fourth in 01's mode
+  pub at-closed : s .cpu .pc ≡ service.add-read-target → not (s .cpu .strict) ≡ true → (r : Served) → r ≡ none → servedOf r (s .owners) (s .jumpers) (s .writers) (s .readers) ≡ serving s
+  unfolding serving
+  at-closed h m r e = simp (h, not-true (s .cpu .strict) m, e)
+
+  pub at-none : s .cpu .pc ≢ service.isolate → s .cpu .pc ≢ service.add-jump-target → s .cpu .pc ≢ service.add-store-target → s .cpu .pc ≢ service.add-read-target
+      → (r : Served) → r ≡ none → servedOf r (s .owners) (s .jumpers) (s .writers) (s .readers) ≡ serving s
+  unfolding serving
+  at-none a b c d r e =
+      simp (ne-eqb (s .cpu .pc) service.isolate a, ne-eqb (s .cpu .pc) service.add-jump-target b, ne-eqb (s .cpu .pc) service.add-store-target c, ne-eqb (s .cpu .pc) service.add-read-target d, e)

@@ -13,33 +13,34 @@ use Rattle.monitor.specs.Outcomes.{called, Isolating, isolating, Adding, adding
 use Rattle.service.specs.declared.Served.{Served}
 
 -- the processor's numbers and the lent memories, as a state
-abbrev pub stateFrom : List ℕ → ℕ → ℕ → ℕ → Bool → ℕ → List ℕ → List ℕ → List ℕ → List ℕ → List ℕ → State
-stateFrom regs n pc prev jumped next services words owners jumpers writers =
+abbrev pub stateFrom : Bool → List ℕ → ℕ → ℕ → ℕ → Bool → ℕ → List ℕ → List ℕ → List ℕ → List ℕ → List ℕ → List ℕ → State
+stateFrom strict regs n pc prev jumped next services words owners jumpers writers readers =
     record {
-      cpu = record { n = n; regs = regs; pc = pc; prev = prev; jumped = jumped; next = next; services = services };
+      cpu = record { n = n; regs = regs; pc = pc; prev = prev; jumped = jumped; next = next; services = services; strict = strict };
       words = words;
       owners = owners;
       jumpers = jumpers;
       writers = writers;
+      readers = readers;
     }
 
 -- isolate, where the caller arrives; s has the caller's numbers
 unfoldable pub isolatedBy : Bool → State → Isolating
 isolatedBy jumped s =
     cond (jumped && member (getD (s .cpu .services) 0 empty) (s .cpu .prev)) (isolating s)
-    (record { answer = answer.no-arrival; services = s .cpu .services; owners = s .owners; jumpers = s .jumpers; writers = s .writers })
+    (record { answer = answer.no-arrival; services = s .cpu .services; owners = s .owners; jumpers = s .jumpers; writers = s .writers; readers = s .readers })
 
 -- an add over the sets, where the caller arrives
-unfoldable pub addedBy : List ℕ → ℕ → ℕ → Bool → ℕ → List ℕ → List ℕ → Adding
-addedBy regs n prev jumped gate owners sets =
-    cond (jumped && member gate prev) (adding (called regs n prev 0 [] [] owners [] []) sets)
+unfoldable pub addedBy : Bool → List ℕ → ℕ → ℕ → Bool → ℕ → List ℕ → List ℕ → Adding
+addedBy strict regs n prev jumped gate owners sets =
+    cond (jumped && member gate prev) (adding (called strict regs n prev 0 [] [] owners [] [] []) sets)
     (record { answer = answer.no-arrival; sets = sets })
 
 -- "next grows by 1"
 unfoldable pub grown : ℕ → ℕ → ℕ
 grown a next = cond (eqb a answer.done) (plus next 1) next
 
--- the answer, the service's number, next, the services' sets and the three memories of tags
+-- the answer, the service's number, next, the services' sets and the four memories of tags
 pub record Serving : Type 0 where
   pub answer : ℕ
   pub number : ℕ
@@ -48,18 +49,19 @@ pub record Serving : Type 0 where
   pub owners : List ℕ
   pub jumpers : List ℕ
   pub writers : List ℕ
+  pub readers : List ℕ
 
-abbrev pub servedOf : Served → List ℕ → List ℕ → List ℕ → Serving
-servedOf r owners jumpers writers =
-    record { answer = r .answer; number = r .number; next = r .next; services = r .services; owners = owners; jumpers = jumpers; writers = writers }
+abbrev pub servedOf : Served → List ℕ → List ℕ → List ℕ → List ℕ → Serving
+servedOf r owners jumpers writers readers =
+    record { answer = r .answer; number = r .number; next = r .next; services = r .services; owners = owners; jumpers = jumpers; writers = writers; readers = readers }
 
 abbrev pub callOf : State → State
-callOf s = called (s .cpu .regs) (s .cpu .n) (s .cpu .prev) (s .cpu .next) (s .cpu .services) (s .words) (s .owners) (s .jumpers) (s .writers)
+callOf s = called (s .cpu .strict) (s .cpu .regs) (s .cpu .n) (s .cpu .prev) (s .cpu .next) (s .cpu .services) (s .words) (s .owners) (s .jumpers) (s .writers) (s .readers)
 
 abbrev pub addOf : State → ℕ → List ℕ → Adding
-addOf s i sets = addedBy (s .cpu .regs) (s .cpu .n) (s .cpu .prev) (s .cpu .jumped) (getD (s .cpu .services) i empty) (s .owners) sets
+addOf s i sets = addedBy (s .cpu .strict) (s .cpu .regs) (s .cpu .n) (s .cpu .prev) (s .cpu .jumped) (getD (s .cpu .services) i empty) (s .owners) sets
 
--- what each of the three leaves
+-- what each service leaves
 abbrev pub isolates : State → Isolating → Serving
 isolates s o =
     record {
@@ -70,6 +72,7 @@ isolates s o =
       owners = o .owners;
       jumpers = o .jumpers;
       writers = o .writers;
+      readers = o .readers;
     }
 
 abbrev pub adds-jump : State → Adding → Serving
@@ -82,6 +85,7 @@ adds-jump s o =
       owners = s .owners;
       jumpers = o .sets;
       writers = s .writers;
+      readers = s .readers;
     }
 
 abbrev pub adds-store : State → Adding → Serving
@@ -94,6 +98,20 @@ adds-store s o =
       owners = s .owners;
       jumpers = s .jumpers;
       writers = o .sets;
+      readers = s .readers;
+    }
+
+abbrev pub adds-read : State → Adding → Serving
+adds-read s o =
+    record {
+      answer = o .answer;
+      number = 4;
+      next = s .cpu .next;
+      services = s .cpu .services;
+      owners = s .owners;
+      jumpers = s .jumpers;
+      writers = s .writers;
+      readers = o .sets;
     }
 
 abbrev pub nowhere : State → Serving
@@ -106,10 +124,12 @@ nowhere s =
       owners = s .owners;
       jumpers = s .jumpers;
       writers = s .writers;
+      readers = s .readers;
     }
 
 unfoldable pub serving : State → Serving
 serving s =
     cond (eqb (s .cpu .pc) service.isolate) (isolates s (isolatedBy (s .cpu .jumped) (callOf s)))
     (cond (eqb (s .cpu .pc) service.add-jump-target) (adds-jump s (addOf s 1 (s .jumpers)))
-    (cond (eqb (s .cpu .pc) service.add-store-target) (adds-store s (addOf s 2 (s .writers))) (nowhere s)))
+    (cond (eqb (s .cpu .pc) service.add-store-target) (adds-store s (addOf s 2 (s .writers)))
+    (cond (eqb (s .cpu .pc) service.add-read-target && s .cpu .strict) (adds-read s (addOf s 3 (s .readers))) (nowhere s))))

@@ -1,31 +1,34 @@
 // A step at a service: 2, 4, the service's own checks, then its work on the tags.
 ghost use mathlib.Core.Path.{_≡_};
+ghost use Rattle.common.specs.Answers as answer;
 ghost use Rattle.monitor.specs.Outcomes.{called, isolatingOf, addingOf};
 ghost use Rattle.service.specs.Served.{stateFrom, servedOf, serving, grown, isolatedBy, addedBy};
 use monitor::Isolated;
 
-// The answer; and where it is 0, the service's number, the first unused compartment number and the sets I of the three services.
+// The answer; and where it is 0, the service's number, the first unused compartment number and the sets I of the four services.
 pub struct Served {
     pub answer: u32,
     pub number: u32,
     pub next: u32,
-    pub services: [u64; 3],
+    pub services: [u64; 4],
 }
 
 // At 4096.
 fn isolate(
     regs: &[u32; 16],
+    strict: bool,
     n: u32,
     prev: u32,
     jumped: bool,
     next: u32,
-    services: [u64; 3],
+    services: [u64; 4],
     words: &[u32],
     owners: &mut [u32],
     jumpers: &mut [u64],
     writers: &mut [u64],
+    readers: &mut [u64],
 ) -> Isolated
-    ensures { λ r. ⌜ isolatingOf r (now (owners .exit)) (now (jumpers .exit)) (now (writers .exit)) ≡ isolatedBy jumped (called (now (regs .entry)) n prev next services (now (words .entry)) (now (owners .entry)) (now (jumpers .entry)) (now (writers .entry))) ⌝ }
+    ensures { λ r. ⌜ isolatingOf r (now (owners .exit)) (now (jumpers .exit)) (now (writers .exit)) (now (readers .exit)) ≡ isolatedBy jumped (called strict (now (regs .entry)) n prev next services (now (words .entry)) (now (owners .entry)) (now (jumpers .entry)) (now (writers .entry)) (now (readers .entry))) ⌝ }
 {
     if !rights::jumped_in(prev, jumped, services[0]) {
         return Isolated {
@@ -35,6 +38,7 @@ fn isolate(
     }
     monitor::isolate(
         regs,
+        strict,
         n,
         prev,
         next,
@@ -43,12 +47,14 @@ fn isolate(
         owners,
         jumpers,
         writers,
+        readers,
     )
 }
 
-// At 4097 over the jumpers, at 4098 over the writers; gate is the service's set.
+// At 4097 over the jumpers, at 4098 over the writers, at 4099 over the readers; gate is the service's set.
 fn add_target(
     regs: &[u32; 16],
+    strict: bool,
     n: u32,
     prev: u32,
     jumped: bool,
@@ -56,12 +62,12 @@ fn add_target(
     owners: &[u32],
     sets: &mut [u64],
 ) -> u32
-    ensures { λ r. ⌜ addingOf r (now (sets .exit)) ≡ addedBy (now (regs .entry)) n prev jumped gate (now (owners .entry)) (now (sets .entry)) ⌝ }
+    ensures { λ r. ⌜ addingOf r (now (sets .exit)) ≡ addedBy strict (now (regs .entry)) n prev jumped gate (now (owners .entry)) (now (sets .entry)) ⌝ }
 {
     if !rights::jumped_in(prev, jumped, gate) {
         return answers::NO_ARRIVAL;
     }
-    monitor::add_target(regs, n, prev, owners, sets)
+    monitor::add_target(regs, strict, n, prev, owners, sets)
 }
 
 // The first unused number after isolate answered.
@@ -74,26 +80,41 @@ fn grown(answer: u32, next: u32) -> u32
     std::num::wrapping_add_u32(next, 1)
 }
 
+// 2.
+fn no_place(next: u32, services: [u64; 4]) -> Served
+    ensures { λ r. ⌜ r ≡ record { answer = answer.no-place; number = 0; next = next; services = services } ⌝ }
+{
+    Served {
+        answer: answers::NO_PLACE,
+        number: 0,
+        next,
+        services,
+    }
+}
+
 // A step where pc is not below N: 2, or a service.
 pub fn serve(
     regs: &[u32; 16],
+    strict: bool,
     n: u32,
     pc: u32,
     prev: u32,
     jumped: bool,
     next: u32,
-    services: [u64; 3],
+    services: [u64; 4],
     words: &[u32],
     owners: &mut [u32],
     jumpers: &mut [u64],
     writers: &mut [u64],
+    readers: &mut [u64],
 ) -> Served
-    ensures { λ r. ⌜ servedOf r (now (owners .exit)) (now (jumpers .exit)) (now (writers .exit)) ≡ serving (stateFrom (now (regs .entry)) n pc prev jumped next services (now (words .entry)) (now (owners .entry)) (now (jumpers .entry)) (now (writers .entry))) ⌝ }
+    ensures { λ r. ⌜ servedOf r (now (owners .exit)) (now (jumpers .exit)) (now (writers .exit)) (now (readers .exit)) ≡ serving (stateFrom strict (now (regs .entry)) n pc prev jumped next services (now (words .entry)) (now (owners .entry)) (now (jumpers .entry)) (now (writers .entry)) (now (readers .entry))) ⌝ }
 {
     match pc {
         4096 => {
             let i = isolate(
                 regs,
+                strict,
                 n,
                 prev,
                 jumped,
@@ -103,6 +124,7 @@ pub fn serve(
                 owners,
                 jumpers,
                 writers,
+                readers,
             );
             let answer = i.answer;
             let made = i.services;
@@ -114,7 +136,7 @@ pub fn serve(
             }
         }
         4097 => {
-            let answer = add_target(regs, n, prev, jumped, services[1], owners, jumpers);
+            let answer = add_target(regs, strict, n, prev, jumped, services[1], owners, jumpers);
             Served {
                 answer,
                 number: 2,
@@ -123,7 +145,7 @@ pub fn serve(
             }
         }
         4098 => {
-            let answer = add_target(regs, n, prev, jumped, services[2], owners, writers);
+            let answer = add_target(regs, strict, n, prev, jumped, services[2], owners, writers);
             Served {
                 answer,
                 number: 3,
@@ -131,11 +153,18 @@ pub fn serve(
                 services,
             }
         }
-        _ => Served {
-            answer: answers::NO_PLACE,
-            number: 0,
-            next,
-            services,
-        },
+        4099 => {
+            if !strict {
+                return no_place(next, services);
+            }
+            let answer = add_target(regs, strict, n, prev, jumped, services[3], owners, readers);
+            Served {
+                answer,
+                number: 4,
+                next,
+                services,
+            }
+        }
+        _ => no_place(next, services),
     }
 }

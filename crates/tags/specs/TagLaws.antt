@@ -173,11 +173,13 @@ module _ (g : ℕ → ℕ) (twice : (v : ℕ) → g (g v) ≡ g v) (l : List ℕ
 
 -- ---- the services
 
-pub three-services : (has : ℕ → Bool) (c : ℕ) (sets : List ℕ) → length sets ≡ 3
-    → (joinedIf (has 4096) (getD sets 0 0) c ∷ joinedIf (has 4097) (getD sets 1 0) c ∷ joinedIf (has 4098) (getD sets 2 0) c ∷ []) ≡ mapFrom (λ i set. cond (has (isolate + i)) (insert set c) set) 0 sets
+pub four-services : (has : ℕ → Bool) (c : ℕ) (sets : List ℕ) → length sets ≡ 4
+    → (joinedIf (has 4096) (getD sets 0 0) c ∷ joinedIf (has 4097) (getD sets 1 0) c ∷ joinedIf (has 4098) (getD sets 2 0) c ∷ joinedIf (has 4099) (getD sets 3 0) c ∷ [])
+    ≡ mapFrom (λ i set. cond (has (isolate + i)) (insert set c) set) 0 sets
 unfolding mapFrom
-three-services has c [] e = absurd (omega arith)
-three-services has c (x ∷ []) e = absurd (omega arith)
-three-services has c (x ∷ y ∷ []) e = absurd (omega arith)
-three-services has c (x ∷ y ∷ z ∷ []) e = refl
-three-services has c (x ∷ y ∷ z ∷ w ∷ ws) e = absurd (omega arith)
+four-services has c [] e = absurd (omega arith)
+four-services has c (x ∷ []) e = absurd (omega arith)
+four-services has c (x ∷ y ∷ []) e = absurd (omega arith)
+four-services has c (x ∷ y ∷ z ∷ []) e = absurd (omega arith)
+four-services has c (x ∷ y ∷ z ∷ w ∷ []) e = refl
+four-services has c (x ∷ y ∷ z ∷ w ∷ v ∷ vs) e = absurd (omega arith)

@@ -5,9 +5,6 @@ ghost use Rattle.common.specs.AddressSets.{setAt};
 ghost use Rattle.rules.specs.Step.{owned, joined, joinedServices, joinAt};
 ghost use Rattle.address_sets.specs.SetLaws.{pairOf};
 ghost use Rattle.tags.specs.TagLaws.{joinedIf};
-use address_sets::ADD_JUMP_TARGET;
-use address_sets::ADD_STORE_TARGET;
-use address_sets::ISOLATE;
 use address_sets::Pair;
 use address_sets::clipped;
 use address_sets::has;
@@ -15,6 +12,10 @@ use address_sets::pair_at;
 use compartments::Set;
 use memory::set_at;
 use memory::word_at;
+use modes::ADD_JUMP_TARGET;
+use modes::ADD_READ_TARGET;
+use modes::ADD_STORE_TARGET;
+use modes::ISOLATE;
 
 // The words of the pair get an owner.
 fn own_pair(owners: &mut [u32], n: u32, pair: Pair, number: u32)
@@ -77,13 +78,14 @@ fn join_if(joins: bool, set: u64, number: u32) -> u64
 }
 
 // A number joins the sets of the services that the set at q has.
-pub fn join_services(services: [u64; 3], words: &[u32], q: u32, number: u32) -> [u64; 3]
+pub fn join_services(services: [u64; 4], words: &[u32], q: u32, number: u32) -> [u64; 4]
     ensures { λ r. ⌜ r ≡ joinedServices (setAt (now (words .entry)) q) number services ⌝ }
 {
     let isolate = join_if(has(words, q, ISOLATE), services[0], number);
     let add_jump = join_if(has(words, q, ADD_JUMP_TARGET), services[1], number);
     let add_store = join_if(has(words, q, ADD_STORE_TARGET), services[2], number);
-    [isolate, add_jump, add_store]
+    let add_read = join_if(has(words, q, ADD_READ_TARGET), services[3], number);
+    [isolate, add_jump, add_store, add_read]
 }
 
 // A number joins the set at x.

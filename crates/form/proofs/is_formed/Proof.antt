@@ -1,44 +1,47 @@
--- `is_formed`, return by return, by the laws of the form.
-use borrow.Author.Tests.{not-true, not-false}
-use mathlib.Core.Path.{_≡_}
-use mathlib.Core.Bool.{true, false}
+-- `is_formed`, test by test.
 use Rattle.form.specs.Form.{formedBy}
+use Rattle.common.specs.Tests.{stops-first, stops-second, stops-third, fourth}
 use borrow.Author.Needs.{needs}
 use Rattle.form.proofs.is_formed.Statement.{statement}
 use Rattle.form.proofs.is_formed.Tie as tie
 
-is-sized-requires : tie.Need-is-sized-requires
-is-sized-requires c κs = search needs
+same-lengths-requires : tie.Need-same-lengths-requires
+same-lengths-requires c κs = search needs
 
 returns : tie.Need-returns
 unfolding formedBy
-returns c = let a : c .before .is-sized .result ≡ false = not-true _ (c .if1 .taken) in simp (← c .before .is-sized .ensures, a)
+returns c = stops-first _ _ _ _ _ (c .before .same-lengths .ensures) (c .if1 .taken)
+
+has-room-requires : tie.Need-has-room-requires
+has-room-requires c κs = search needs
+
+returns-2 : tie.Need-returns-2
+unfolding formedBy
+returns-2 c = stops-second _ _ _ _ _ (c .before .before .before .same-lengths .ensures) (c .before .before .if1 .left) _ (c .before .has-room .ensures) (c .if2 .taken)
 
 is-numbered-requires : tie.Need-is-numbered-requires
 is-numbered-requires c κs = search needs
 
-returns-2 : tie.Need-returns-2
+returns-3 : tie.Need-returns-3
 unfolding formedBy
-returns-2 c = let a : c .before .before .before .is-sized .result ≡ true = not-false _ (c .before .before .if1 .left) in
-    let b : c .before .is-numbered .result ≡ false = not-true _ (c .if2 .taken) in
-    simp (← c .before .before .before .is-sized .ensures, a, ← c .before .is-numbered .ensures, b)
+returns-3 c = stops-third _ _ _ _ _ (c .before .before .before .before .before .same-lengths .ensures) (c .before .before .before .before .if1 .left) _ (c .before .before .before .has-room .ensures) (c .before .before .if2 .left) _ (c .before .is-numbered .ensures) (c .if3 .taken)
 
 is-seated-requires : tie.Need-is-seated-requires
 is-seated-requires c κs = search needs
 
-returns-3 : tie.Need-returns-3
+returns-4 : tie.Need-returns-4
 unfolding formedBy
-returns-3 c = let a : c .before .before .before .before .is-sized .result ≡ true = not-false _ (c .before .before .before .if1 .left) in
-    let b : c .before .before .is-numbered .result ≡ true = not-false _ (c .before .if2 .left) in
-    simp (← c .before .before .before .before .is-sized .ensures, a, ← c .before .before .is-numbered .ensures, b, ← c .is-seated .ensures)
+returns-4 c = fourth _ _ _ _ _ (c .before .before .before .before .before .before .same-lengths .ensures) (c .before .before .before .before .before .if1 .left) _ (c .before .before .before .before .has-room .ensures) (c .before .before .before .if2 .left) _ (c .before .before .is-numbered .ensures) (c .before .if3 .left) _ (c .is-seated .ensures)
 
 pub is-formed-spec : {M : Type 1} → statement M
 is-formed-spec =
     tie.close
     (tie.spec
-    is-sized-requires
+    same-lengths-requires
     returns
-    is-numbered-requires
+    has-room-requires
     returns-2
+    is-numbered-requires
+    returns-3
     is-seated-requires
-    returns-3)
+    returns-4)

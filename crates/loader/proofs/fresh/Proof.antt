@@ -1,7 +1,5 @@
--- The set of the main compartment at each service.
-use Rattle.common.specs.Services.{serviceCount}
+-- The set of the main compartment at each service, and the first number of the mode.
 use Rattle.rules.specs.Compartments.{main}
-use Rattle.rules.specs.State.{firstNumber}
 use borrow.Author.Needs.{needs}
 use Rattle.loader.proofs.fresh.Statement.{statement}
 use Rattle.loader.proofs.fresh.Tie as tie
@@ -12,9 +10,12 @@ none-requires c κs = search needs
 insert-requires : tie.Need-insert-requires
 insert-requires c κs = search needs
 
+first-number-requires : tie.Need-first-number-requires
+first-number-requires c κs = search needs
+
 returns : tie.Need-returns
-unfolding firstNumber serviceCount main
-returns c = simp (c .insert .ensures, c .before .none .ensures)
+unfolding main
+returns c = simp (c .before .insert .ensures, c .before .before .none .ensures, c .first-number .ensures)
 
 pub fresh-spec : {M : Type 1} → statement M
-fresh-spec = tie.close (tie.spec none-requires insert-requires returns)
+fresh-spec = tie.close (tie.spec none-requires insert-requires first-number-requires returns)

@@ -1,6 +1,6 @@
 -- The caller's two tests are the rules' checks, and the set at r1 is the one that changes.
-use borrow.Author.Needs.{needs}
 use Rattle.monitor.specs.CallLaws.{not-owned, no-way-back, adds}
+use borrow.Author.Needs.{needs}
 use Rattle.monitor.proofs.add_target.Statement.{statement}
 use Rattle.monitor.proofs.add_target.Tie as tie
 

@@ -1,24 +1,13 @@
 -- One return for each check, in the sheet's order.
-use borrow.Author.Needs.{needs}
-use Rattle.rules.specs.Checks.{goodSets}
 use Rattle.monitor.specs.CallLaws.{bad-sets, no-addresses, not-within, no-return, no-number, all-pass}
+use borrow.Author.Needs.{needs}
 use Rattle.monitor.proofs.isolate_verdict.Statement.{statement}
 use Rattle.monitor.proofs.isolate_verdict.Tie as tie
-
-element-copy-out-all-good : tie.Need-element-copy-out-all-good
-element-copy-out-all-good c = search needs
-
-element-copy-out-all-good-2 : tie.Need-element-copy-out-all-good-2
-element-copy-out-all-good-2 c = search needs
-
-element-copy-out-all-good-3 : tie.Need-element-copy-out-all-good-3
-element-copy-out-all-good-3 c = search needs
 
 all-good-requires : tie.Need-all-good-requires
 all-good-requires c κs = search needs
 
 returns : tie.Need-returns
-unfolding goodSets
 returns c = bad-sets _ _ _ (c .before .all-good .ensures) (c .if1 .taken)
 
 element-copy-out-word-at : tie.Need-element-copy-out-word-at
@@ -28,38 +17,30 @@ word-at-requires : tie.Need-word-at-requires
 word-at-requires c κs = search needs
 
 returns-2 : tie.Need-returns-2
-unfolding goodSets
 returns-2 c = no-addresses _ _ _ (c .before .before .before .before .all-good .ensures) (c .before .before .before .if1 .left) _ (c .before .word-at .ensures) (c .if2 .taken)
 
 all-within-requires : tie.Need-all-within-requires
 all-within-requires c κs = search needs
 
 returns-3 : tie.Need-returns-3
-unfolding goodSets
 returns-3 c = not-within _ _ _ (c .before .before .before .before .before .before .all-good .ensures) (c .before .before .before .before .before .if1 .left) _ (c .before .before .before .word-at .ensures) (c .before .before .if2 .left) _ (c .before .all-within .ensures) (c .if3 .taken)
 
 returns-requires : tie.Need-returns-requires
 returns-requires c κs = search needs
 
 returns-4 : tie.Need-returns-4
-unfolding goodSets
 returns-4 c = no-return _ _ _ (c .before .before .before .before .before .before .before .before .all-good .ensures) (c .before .before .before .before .before .before .before .if1 .left) _ (c .before .before .before .before .before .word-at .ensures) (c .before .before .before .before .if2 .left) _ (c .before .before .before .all-within .ensures) (c .before .before .if3 .left) _ (c .before .returns .ensures) (c .if4 .taken)
 
 returns-5 : tie.Need-returns-5
-unfolding goodSets
 returns-5 c = no-number _ _ _ (c .before .before .before .before .before .before .before .before .before .all-good .ensures) (c .before .before .before .before .before .before .before .before .if1 .left) _ (c .before .before .before .before .before .before .word-at .ensures) (c .before .before .before .before .before .if2 .left) _ (c .before .before .before .before .all-within .ensures) (c .before .before .before .if3 .left) _ (c .before .before .returns .ensures) (c .before .if4 .left) (c .if5 .taken)
 
 returns-6 : tie.Need-returns-6
-unfolding goodSets
 returns-6 c = all-pass _ _ _ (c .before .before .before .before .before .before .before .before .before .all-good .ensures) (c .before .before .before .before .before .before .before .before .if1 .left) _ (c .before .before .before .before .before .before .word-at .ensures) (c .before .before .before .before .before .if2 .left) _ (c .before .before .before .before .all-within .ensures) (c .before .before .before .if3 .left) _ (c .before .before .returns .ensures) (c .before .if4 .left) (c .if5 .left)
 
 pub isolate-verdict-spec : {M : Type 1} → statement M
 isolate-verdict-spec =
     tie.close
     (tie.spec
-    element-copy-out-all-good
-    element-copy-out-all-good-2
-    element-copy-out-all-good-3
     all-good-requires
     returns
     element-copy-out-word-at

@@ -20,24 +20,24 @@ word-at-requires c κs = search needs
 set-at-requires : tie.Need-set-at-requires
 set-at-requires c κs = search needs
 
-may-store-requires : tie.Need-may-store-requires
-may-store-requires c κs = search needs
+may-use-requires : tie.Need-may-use-requires
+may-use-requires c κs = search needs
 
 stop-requires-2 : tie.Need-stop-requires-2
 stop-requires-2 c κs = search needs
 
 returns-2 : tie.Need-returns-2
 unfolding storeMove
-returns-2 c = let e : c .before .before .may-store .result ≡ false = not-true _ (c .before .if2 .taken) in
-    simp (c .stop2 .ensures, lt-ltb _ _ (c .before .before .before .before .before .if1 .left), ← c .before .before .before .before .word-at .ensures, ← c .before .before .before .set-at .ensures, ← c .before .before .may-store .ensures, e)
+returns-2 c = let e : c .before .before .may-use .result ≡ false = not-true _ (c .before .if2 .taken) in
+    simp (c .stop2 .ensures, lt-ltb _ _ (c .before .before .before .before .before .if1 .left), ← c .before .before .before .before .word-at .ensures, ← c .before .before .before .set-at .ensures, ← c .before .before .may-use .ensures, e)
 
 stores-requires : tie.Need-stores-requires
 stores-requires c κs = search needs
 
 returns-3 : tie.Need-returns-3
 unfolding storeMove
-returns-3 c = let e : c .before .before .may-store .result ≡ true = not-false _ (c .before .if2 .left) in
-    simp (c .stores .ensures, lt-ltb _ _ (c .before .before .before .before .before .if1 .left), ← c .before .before .before .before .word-at .ensures, ← c .before .before .before .set-at .ensures, ← c .before .before .may-store .ensures, e)
+returns-3 c = let e : c .before .before .may-use .result ≡ true = not-false _ (c .before .if2 .left) in
+    simp (c .stores .ensures, lt-ltb _ _ (c .before .before .before .before .before .if1 .left), ← c .before .before .before .before .word-at .ensures, ← c .before .before .before .set-at .ensures, ← c .before .before .may-use .ensures, e)
 
 pub store-move-spec : {M : Type 1} → statement M
 store-move-spec =
@@ -47,7 +47,7 @@ store-move-spec =
     returns
     word-at-requires
     set-at-requires
-    may-store-requires
+    may-use-requires
     stop-requires-2
     returns-2
     stores-requires

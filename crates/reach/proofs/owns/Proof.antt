@@ -5,7 +5,7 @@ use borrow.Author.Needs.{needs}
 use borrow.Author.Tests.{le-ltb, lt-ltb, not-true, not-false}
 use Rattle.common.specs.Services.{serviceAt}
 use Rattle.rules.specs.State.{owns, hasOwner, ownerAt, inMemory}
-use Rattle.reach.specs.ReachLaws.{service-from}
+use Rattle.common.specs.ServiceLaws.{service-range}
 use Rattle.reach.proofs.owns.Statement.{statement}
 use Rattle.reach.proofs.owns.Tie as tie
 
@@ -24,7 +24,7 @@ unfolding owns hasOwner ownerAt inMemory
 returns-2 c = simp (le-ltb _ _ (c .before .before .if1 .left), sym (c .before .is-service .ensures) ∙ not-true _ (c .if2 .taken))
 
 sub-result : tie.Need-sub-result
-sub-result c = omega (arith, service-from _ (sym (c .before .is-service .ensures) ∙ not-false _ (c .if2 .left)))
+sub-result c = omega (arith, service-range _ _ (sym (c .before .is-service .ensures) ∙ not-false _ (c .if2 .left)) .0)
 
 returns-3 : tie.Need-returns-3
 unfolding owns hasOwner ownerAt inMemory serviceAt

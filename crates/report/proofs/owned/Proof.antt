@@ -1,7 +1,7 @@
 -- The places and the services are the rules' count, which fits.
+use Rattle.report.specs.CountLaws.{counts-fit, owned-is}
 use native.Mathlib.Omega.{arith}
 use borrow.Author.Needs.{needs}
-use Rattle.report.specs.CountLaws.{counts-fit, owned-is}
 use Rattle.report.proofs.owned.Statement.{statement}
 use Rattle.report.proofs.owned.Tie as tie
 
@@ -12,7 +12,7 @@ services-requires : tie.Need-services-requires
 services-requires c κs = search needs
 
 add-result : tie.Need-add-result
-add-result c = omega (arith, counts-fit _ _ _ _ _ _ _ _ (c .before .places-owned .ensures) (c .services .ensures) (search needs))
+add-result c = omega (arith, counts-fit _ _ _ _ _ _ _ _ _ _ (c .before .places-owned .ensures) (c .services .ensures) (search needs))
 
 returns : tie.Need-returns
 returns c = owned-is _ _ _ _ (c .before .places-owned .ensures) (c .services .ensures)

@@ -25,8 +25,11 @@ same-length-2 c = search needs
 same-length-3 : tie.Need-same-length-3
 same-length-3 c = search needs
 
+same-length-4 : tie.Need-same-length-4
+same-length-4 c = search needs
+
 returns-2 : tie.Need-returns-2
-returns-2 c = law.isolate-arrives _ _ _ (c .before .before .before .before .before .before .before .before .before .before .before .jumped-in .ensures) (c .before .before .before .before .before .before .before .before .before .before .if1 .left) _ (c .before .before .before .before .before .before .isolate .ensures)
+returns-2 c = law.isolate-arrives _ _ _ (c .before .before .before .before .before .before .before .before .before .before .before .before .before .before .jumped-in .ensures) (c .before .before .before .before .before .before .before .before .before .before .before .before .before .if1 .left) _ (c .before .before .before .before .before .before .before .before .isolate .ensures)
 
 pub isolate-spec : {M : Type 1} → statement M
 isolate-spec =
@@ -39,4 +42,5 @@ isolate-spec =
     same-length
     same-length-2
     same-length-3
+    same-length-4
     returns-2)

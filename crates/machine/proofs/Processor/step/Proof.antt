@@ -19,9 +19,20 @@ same-length-3 c = search needs
 same-length-4 : tie.Need-same-length-4
 same-length-4 c = search needs
 
+same-length-5 : tie.Need-same-length-5
+same-length-5 c = search needs
+
 returns : tie.Need-returns
-returns c = one-step _ _ (c .before .before .before .before .before .before .before .before .before .run .ensures)
+returns c = one-step _ _ (c .before .before .before .before .before .before .before .before .before .before .before .run .ensures)
 
 pub step-spec : {M : Type 1} → statement M
 step-spec =
-    tie.close (tie.spec run-requires same-length same-length-2 same-length-3 same-length-4 returns)
+    tie.close
+    (tie.spec
+    run-requires
+    same-length
+    same-length-2
+    same-length-3
+    same-length-4
+    same-length-5
+    returns)

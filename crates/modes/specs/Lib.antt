@@ -1,0 +1,2 @@
+-- ---- the promises of what the mode decides
+pub mod Promises
