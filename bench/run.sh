@@ -12,7 +12,7 @@ me=bench
 find_tools
 find_library
 [ "${PLACE:-page}" = linker ] || align_pages bench
-build bench "$root/bench/bench.c" "$root/bench/sources.c" "$root/bench/sheet.c"
+build bench "$root/bench/bench.c" "$root/bench/sources.c" "$root/bench/sheet.c" "$root/bench/sheet_images.c"
 if [ -n "$emulator" ]; then
     say "running under the kit's emulator: the times compare the two sides here, and say little of a real x86-64"
 fi

@@ -1,20 +1,16 @@
-/* The sheet's rules in plain C: instruction words, images, one step, the three services and a run.
-   Each function names the sentence of the sheet that it follows. */
+/* The sheet's rules in plain C: instruction words, one step, the services and a run, in either mode.
+   Each function names the sentence of the sheet, or of the request for strict mode, that it follows. */
 #include "sheet.h"
+#include "sheet_sizes.h"
 
 #include <string.h>
 
-enum { MOST_WORDS = 2048, REGISTERS = 16, RETURN = 15, FIRST_FREE = 4, MOST_COMPARTMENTS = 64 };
-enum { ISOLATE = 4096, ADD_JUMP = 4097, ADD_STORE = 4098, PAST_SERVICES = 4099 };
 enum { NOP, CONST, MOV, ADD, SUB, MUL, EQ, LEQ, LOAD, STORE, JUMP, JAL, BNZ, HALT, OPCODES };
 
-#define MAIN_SET UINT64_C(1)     /* {0} */
-#define SERVICES_SET UINT64_C(14) /* {1, 2, 3} */
-
-/* The four lent memories, once 14 has found them alike. */
+/* The five lent memories, once 14 has found them alike; but for strict mode the readers may have any length. */
 typedef struct memories {
     uint32_t *words, *owners;
-    uint64_t *jumpers, *writers;
+    uint64_t *jumpers, *writers, *readers;
 } memories;
 
 /* "each set one 64-bit number with a bit per compartment"; who is below 64. */
@@ -63,98 +59,6 @@ uint32_t sheet_encode(uint32_t op, uint32_t a, uint32_t b, uint32_t low, uint32_
     return 0;
 }
 
-/* ---- Images ---- */
-
-/* "all numbers 4 bytes, little-endian": the number at place i, counted in numbers. */
-static uint32_t number_at(const uint8_t *bytes, size_t i)
-{
-    const uint8_t *b = bytes + 4 * i;
-    return (uint32_t)b[0] | (uint32_t)b[1] << 8 | (uint32_t)b[2] << 16 | (uint32_t)b[3] << 24;
-}
-
-static void put_number(uint8_t *bytes, size_t i, uint32_t number)
-{
-    for (unsigned k = 0; k < 4; k++) bytes[4 * i + k] = (uint8_t)(number >> 8 * k);
-}
-
-/* "left to right 20 where a field is not whole, with 21 .. 25, each as soon as its field is read; then 26". */
-static uint32_t check_image(const uint8_t *bytes, size_t bytes_len, size_t lent)
-{
-    const size_t whole = bytes_len / 4;
-    if (whole < 1) return 20;
-    const uint32_t n = number_at(bytes, 0);
-    if (n < 1 || n > MOST_WORDS) return 21;
-    if (n > lent) return 28;
-    if (whole < (size_t)n + 2) return 20;
-    const uint32_t listed = number_at(bytes, n + 1);
-    if (listed > REGISTERS) return 22;
-    size_t at = (size_t)n + 2 + listed;
-    if (whole < at) return 20;
-    if (listed > 0 && number_at(bytes, at - 1) == 0) return 23;
-    if (whole < at + 1) return 20;
-    if (number_at(bytes, at) != 1) return 24;
-    if (whole < at + 2) return 20;
-    if (number_at(bytes, at + 1) >= n) return 25;
-    return bytes_len == 4 * (at + 2) ? 0 : 26;
-}
-
-/* "N = 0 and a blank record (registers 0, pc 0, tags as after loading)". */
-static void make_blank(kl_processor *cpu)
-{
-    memset(cpu->regs, 0, sizeof cpu->regs);
-    cpu->n = cpu->pc = cpu->prev = 0;
-    cpu->jumped = false;
-    cpu->next = FIRST_FREE;
-    for (int s = 0; s < 3; s++) cpu->services[s] = MAIN_SET;
-}
-
-/* "27 lent memories differ in length; then .. Accepted: the first N places of each memory are filled, the rest
-   keep their contents"; "every owner 0, every I = {1, 2, 3}, every W empty". */
-uint32_t sheet_load(kl_processor *cpu, const uint8_t *bytes, size_t bytes_len,
-                    uint32_t *words, size_t words_len, uint32_t *owners, size_t owners_len,
-                    uint64_t *jumpers, size_t jumpers_len, uint64_t *writers, size_t writers_len)
-{
-    make_blank(cpu);
-    if (words_len != owners_len || words_len != jumpers_len || words_len != writers_len) return 27;
-    const uint32_t refusal = check_image(bytes, bytes_len, words_len);
-    if (refusal != 0) return refusal;
-
-    const uint32_t n = number_at(bytes, 0), listed = number_at(bytes, n + 1);
-    for (uint32_t x = 0; x < n; x++) {
-        words[x] = number_at(bytes, x + 1);
-        owners[x] = 0;
-        jumpers[x] = SERVICES_SET;
-        writers[x] = 0;
-    }
-    for (uint32_t r = 0; r < listed; r++) cpu->regs[r] = number_at(bytes, n + 2 + r);
-    cpu->n = n;
-    cpu->pc = number_at(bytes, n + 3 + listed);
-    return 0;
-}
-
-/* "it answers 21, 25, 31 (out buffer too short) in this order, else the length written, and the out buffer
-   beyond that length keeps its contents"; "The last listed register is not 0." */
-uint32_t sheet_write(const uint32_t *words, size_t words_len, const uint32_t regs[16], uint32_t entry,
-                     uint8_t *out, size_t out_len, size_t *length)
-{
-    *length = 0;
-    if (words_len < 1 || words_len > MOST_WORDS) return 21;
-    if (entry >= words_len) return 25;
-    size_t listed = REGISTERS;
-    while (listed > 0 && regs[listed - 1] == 0) listed--;
-    if (out_len < 4 * (words_len + listed + 4)) return 31;
-
-    size_t at = 0;
-    put_number(out, at++, (uint32_t)words_len);
-    for (size_t x = 0; x < words_len; x++) put_number(out, at++, words[x]);
-    put_number(out, at++, (uint32_t)listed);
-    for (size_t r = 0; r < listed; r++) put_number(out, at++, regs[r]);
-    put_number(out, at++, 1);
-    put_number(out, at++, entry);
-    *length = 4 * at;
-    return 0;
-}
-
 /* ---- Services ---- */
 
 /* "A set is a count k, then k pairs (first, past)": where its pairs are, and how many. */
@@ -163,26 +67,35 @@ typedef struct pairs {
     uint32_t count;
 } pairs;
 
-/* "8 if .. a set is not wholly inside memory or has first >= past"; "counted on from the pointer without
-   wrapping". */
-static bool read_set(const uint32_t *words, uint32_t n, uint32_t pointer, pairs *set)
+/* "Reading is free to all", but in strict mode it "needs the owner or a reader"; x is in memory. */
+static inline bool readable(bool strict, const memories *m, uint32_t who, uint32_t x)
 {
-    if (pointer >= n || words[pointer] > (n - 1 - pointer) / 2) return false;
-    set->at = words + pointer + 1;
-    set->count = words[pointer];
+    return !strict || m->owners[x] == who || holds(m->readers[x], who);
+}
+
+/* "8 if .. a set is not wholly inside memory or has first >= past"; "counted on from the pointer without wrapping";
+   "in strict mode an unreadable set word answers 8". */
+static bool read_set(const kl_processor *cpu, const memories *m, uint32_t pointer, pairs *set)
+{
+    if (pointer >= cpu->n || m->words[pointer] > (cpu->n - 1 - pointer) / 2) return false;
+    set->at = m->words + pointer + 1;
+    set->count = m->words[pointer];
     for (uint32_t i = 0; i < set->count; i++)
         if (set->at[2 * i] >= set->at[2 * i + 1]) return false;
+    for (uint32_t i = 0; cpu->strict && i <= 2 * set->count; i++)
+        if (!readable(cpu->strict, m, cpu->prev, pointer + i)) return false;
     return true;
 }
 
-/* "10 unless A' is within A": every address is in memory and owned by the caller. */
-static bool all_owned(const kl_processor *cpu, const memories *m, pairs set)
+/* "10 unless A' is within A", "S' within A or S of the caller", R' "within A or R of the caller": every address is in
+   memory, and owned by the caller or, where there are such sets, granted to it there. Services have no W and no R. */
+static bool all_usable(const kl_processor *cpu, const memories *m, pairs set, const uint64_t *granted)
 {
     for (uint32_t i = 0; i < set.count; i++) {
         const uint32_t first = set.at[2 * i], past = set.at[2 * i + 1];
         if (past > cpu->n) return false;
         for (uint32_t x = first; x < past; x++)
-            if (m->owners[x] != cpu->prev) return false;
+            if (m->owners[x] != cpu->prev && !(granted != NULL && holds(granted[x], cpu->prev))) return false;
     }
     return true;
 }
@@ -195,21 +108,8 @@ static bool all_jumpable(const kl_processor *cpu, const memories *m, pairs set)
         const uint32_t past = set.at[2 * i + 1];
         for (; x < past && x < cpu->n; x++)
             if (m->owners[x] != cpu->prev && !holds(m->jumpers[x], cpu->prev)) return false;
-        if (x < past && (x < ISOLATE || past > PAST_SERVICES)) return false;
         for (; x < past; x++)
-            if (!holds(cpu->services[x - ISOLATE], cpu->prev)) return false;
-    }
-    return true;
-}
-
-/* "S' within A or S of the caller"; services have no W. */
-static bool all_storable(const kl_processor *cpu, const memories *m, pairs set)
-{
-    for (uint32_t i = 0; i < set.count; i++) {
-        const uint32_t first = set.at[2 * i], past = set.at[2 * i + 1];
-        if (past > cpu->n) return false;
-        for (uint32_t x = first; x < past; x++)
-            if (m->owners[x] != cpu->prev && !holds(m->writers[x], cpu->prev)) return false;
+            if (!is_service(cpu->strict, x) || !holds(cpu->services[x - ISOLATE], cpu->prev)) return false;
     }
     return true;
 }
@@ -233,40 +133,49 @@ static void join(uint64_t *sets, uint32_t first, uint32_t past, uint32_t who)
     for (uint32_t x = first; x < past; x++) sets[x] = with(sets[x], who);
 }
 
-/* "A' gets owner next, J' gets next in I, S' gets next in W, and next grows by 1." A pair of J' lies in memory or
-   among the services, for no address between them passes 10. */
-static void grant(kl_processor *cpu, memories *m, pairs own, pairs jump, pairs store)
+/* The four sets of an isolate; in 01's mode the last is empty. */
+typedef struct request {
+    pairs own, jump, store, read;
+} request;
+
+/* "A' gets owner next, J' gets next in I, S' gets next in W, and next grows by 1"; isolate "puts next in the readers"
+   on R'. A pair of J' lies in memory or among the services, for no address between them passes 10. */
+static void grant(kl_processor *cpu, memories *m, const request *q)
 {
     const uint32_t child = cpu->next++;
-    for (uint32_t i = 0; i < own.count; i++) {
-        const uint32_t first = own.at[2 * i], past = own.at[2 * i + 1];
+    for (uint32_t i = 0; i < q->own.count; i++) {
+        const uint32_t first = q->own.at[2 * i], past = q->own.at[2 * i + 1];
         for (uint32_t x = first; x < past; x++) m->owners[x] = child;
     }
-    for (uint32_t i = 0; i < jump.count; i++) {
-        const uint32_t first = jump.at[2 * i], past = jump.at[2 * i + 1];
+    for (uint32_t i = 0; i < q->jump.count; i++) {
+        const uint32_t first = q->jump.at[2 * i], past = q->jump.at[2 * i + 1];
         if (first < cpu->n) join(m->jumpers, first, past, child);
         else join(cpu->services, first - ISOLATE, past - ISOLATE, child);
     }
-    for (uint32_t i = 0; i < store.count; i++) join(m->writers, store.at[2 * i], store.at[2 * i + 1], child);
+    for (uint32_t i = 0; i < q->store.count; i++) join(m->writers, q->store.at[2 * i], q->store.at[2 * i + 1], child);
+    for (uint32_t i = 0; i < q->read.count; i++) join(m->readers, q->read.at[2 * i], q->read.at[2 * i + 1], child);
 }
 
-/* "isolate: r1, r2, r3 point at the sets A', J', S' in memory": 8, 9, 10, 12, 13 in this order. */
+/* "isolate: r1, r2, r3 point at the sets A', J', S' in memory": 8, 9, 10, 12, 13 in this order. In strict mode
+   "isolate takes a fourth set R' from r4", "R' is read after S', and 10 covers R'". */
 static uint32_t isolate(kl_processor *cpu, memories *m)
 {
-    pairs own, jump, store;
-    if (!read_set(m->words, cpu->n, cpu->regs[1], &own) || !read_set(m->words, cpu->n, cpu->regs[2], &jump) ||
-        !read_set(m->words, cpu->n, cpu->regs[3], &store))
-        return 8;
-    if (own.count == 0) return 9;
-    if (!all_owned(cpu, m, own) || !all_jumpable(cpu, m, jump) || !all_storable(cpu, m, store)) return 10;
-    if (!owned_by_caller(cpu, m, cpu->regs[RETURN]) || in_set(own, cpu->regs[RETURN])) return 12;
+    request q = {.read = {NULL, 0}};
+    if (!read_set(cpu, m, cpu->regs[1], &q.own)) return 8;
+    if (!read_set(cpu, m, cpu->regs[2], &q.jump)) return 8;
+    if (!read_set(cpu, m, cpu->regs[3], &q.store)) return 8;
+    if (cpu->strict && !read_set(cpu, m, cpu->regs[4], &q.read)) return 8;
+    if (q.own.count == 0) return 9;
+    if (!all_usable(cpu, m, q.own, NULL) || !all_jumpable(cpu, m, q.jump)) return 10;
+    if (!all_usable(cpu, m, q.store, m->writers) || !all_usable(cpu, m, q.read, m->readers)) return 10;
+    if (!owned_by_caller(cpu, m, cpu->regs[RETURN]) || in_set(q.own, cpu->regs[RETURN])) return 12;
     if (cpu->next == MOST_COMPARTMENTS) return 13;
-    grant(cpu, m, own, jump, store);
+    grant(cpu, m, &q);
     return 0;
 }
 
 /* "r1 is the address. 11 unless the caller owns it, then 12 unless the caller owns r15. Otherwise the caller's
-   number joins I or W there." */
+   number joins I or W there"; the fourth service "adds a read target by the rules of the other two". */
 static uint32_t add_target(kl_processor *cpu, memories *m, uint64_t *sets)
 {
     if (!owned_by_caller(cpu, m, cpu->regs[1])) return 11;
@@ -275,15 +184,24 @@ static uint32_t add_target(kl_processor *cpu, memories *m, uint64_t *sets)
     return 0;
 }
 
+static uint32_t call(kl_processor *cpu, memories *m)
+{
+    switch (cpu->pc) {
+    case ISOLATE: return isolate(cpu, m);
+    case ADD_JUMP: return add_target(cpu, m, m->jumpers);
+    case ADD_STORE: return add_target(cpu, m, m->writers);
+    default: return add_target(cpu, m, m->readers);
+    }
+}
+
 /* A step where pc is not below N: 2, then 4 (14 has made sure that the caller owns no service), then the service.
    "After any service: pc = r15, pc number is the service's, flag jumped, registers unchanged." */
 static uint32_t service(kl_processor *cpu, memories *m)
 {
-    if (cpu->pc < ISOLATE || cpu->pc >= PAST_SERVICES) return 2;
+    if (!is_service(cpu->strict, cpu->pc)) return 2;
     const uint32_t which = cpu->pc - ISOLATE;
     if (!cpu->jumped || !holds(cpu->services[which], cpu->prev)) return 4;
-    const uint32_t answer = cpu->pc == ISOLATE ? isolate(cpu, m)
-                                               : add_target(cpu, m, cpu->pc == ADD_JUMP ? m->jumpers : m->writers);
+    const uint32_t answer = call(cpu, m);
     if (answer != 0) return answer;
     cpu->pc = cpu->regs[RETURN];
     cpu->prev = which + 1;
@@ -294,14 +212,13 @@ static uint32_t service(kl_processor *cpu, memories *m)
 /* ---- One step, and a run ---- */
 
 /* "1. 14: the four lent memories differ in length, or N is not 1 to 2,048 or is above that length; or next is not
-   4 to 64; or the pc number is not below next; or it is 1, 2 or 3 while pc is a service address." */
-static bool is_formed(const kl_processor *cpu, size_t words, size_t owners, size_t jumpers, size_t writers)
+   4 to 64; or the pc number is not below next; or it is 1, 2 or 3 while pc is a service address." In strict mode "14
+   wants next from 5 to 64", "and 14 and 15 treat 4 as they treat 1 to 3". `lent` is the length that all have. */
+static bool is_formed(const kl_processor *cpu, size_t lent)
 {
-    const bool at_service = cpu->pc >= ISOLATE && cpu->pc < PAST_SERVICES;
-    const bool is_service = cpu->prev >= 1 && cpu->prev <= 3;
-    return words == owners && words == jumpers && words == writers && cpu->n >= 1 && cpu->n <= MOST_WORDS &&
-           cpu->n <= words && cpu->next >= FIRST_FREE && cpu->next <= MOST_COMPARTMENTS &&
-           cpu->prev < cpu->next && !(at_service && is_service);
+    return cpu->n >= 1 && cpu->n <= MOST_WORDS && cpu->n <= lent && cpu->next >= first_unused(cpu->strict) &&
+           cpu->next <= MOST_COMPARTMENTS && cpu->prev < cpu->next &&
+           !(is_service(cpu->strict, cpu->pc) && is_service_number(cpu->strict, cpu->prev));
 }
 
 /* "Bnz goes to pc plus an offset from -32,768 to 32,767", modulo 2^32. */
@@ -312,6 +229,7 @@ static inline uint32_t branch(uint32_t pc, uint32_t low) { return pc + low - ((l
 static uint32_t steps(kl_processor *cpu, memories m, uint32_t budget, uint32_t *count)
 {
     const uint32_t n = cpu->n;
+    const bool strict = cpu->strict;
     uint32_t *const r = cpu->regs;
     uint32_t pc = cpu->pc, prev = cpu->prev, next = cpu->next, done = 0, answer = 0;
     bool jumped = cpu->jumped;
@@ -324,7 +242,7 @@ static uint32_t steps(kl_processor *cpu, memories m, uint32_t budget, uint32_t *
             continue;
         }
         const uint32_t owner = m.owners[pc], word = m.words[pc];
-        if ((owner >= 1 && owner <= 3) || owner >= next) { answer = 15; break; }
+        if (is_service_number(strict, owner) || owner >= next) { answer = 15; break; }
         if (owner != prev && !(jumped && holds(m.jumpers[pc], prev))) { answer = 4; break; }
         if (!is_instruction(word)) { answer = 3; break; }
 
@@ -342,6 +260,7 @@ static uint32_t steps(kl_processor *cpu, memories m, uint32_t budget, uint32_t *
         case LEQ: r[low] = r[a] <= r[b]; break;
         case LOAD:
             if (r[a] >= n) { answer = 5; goto stop; }
+            if (!readable(strict, &m, owner, r[a])) { answer = 17; goto stop; }
             r[b] = m.words[r[a]];
             break;
         case STORE:
@@ -367,20 +286,22 @@ stop:
 uint32_t sheet_run(kl_processor *cpu,
                    uint32_t *words, size_t words_len, uint32_t *owners, size_t owners_len,
                    uint64_t *jumpers, size_t jumpers_len, uint64_t *writers, size_t writers_len,
-                   uint32_t budget, uint32_t *count)
+                   uint64_t *readers, size_t readers_len, uint32_t budget, uint32_t *count)
 {
     *count = 0;
     if (budget == 0) return 0;
-    if (!is_formed(cpu, words_len, owners_len, jumpers_len, writers_len)) return 14;
-    return steps(cpu, (memories){words, owners, jumpers, writers}, budget, count);
+    if (!same_lengths(cpu->strict, words_len, owners_len, jumpers_len, writers_len, readers_len)) return 14;
+    if (!is_formed(cpu, words_len)) return 14;
+    return steps(cpu, (memories){words, owners, jumpers, writers, readers}, budget, count);
 }
 
 /* "One step, checks in this order": a run with budget 1. */
 uint32_t sheet_step(kl_processor *cpu,
                     uint32_t *words, size_t words_len, uint32_t *owners, size_t owners_len,
-                    uint64_t *jumpers, size_t jumpers_len, uint64_t *writers, size_t writers_len)
+                    uint64_t *jumpers, size_t jumpers_len, uint64_t *writers, size_t writers_len,
+                    uint64_t *readers, size_t readers_len)
 {
     uint32_t count;
-    return sheet_run(cpu, words, words_len, owners, owners_len, jumpers, jumpers_len, writers, writers_len, 1,
-                     &count);
+    return sheet_run(cpu, words, words_len, owners, owners_len, jumpers, jumpers_len, writers, writers_len, readers,
+                     readers_len, 1, &count);
 }

@@ -5,22 +5,26 @@
 
 #include "kldemuvash.h"
 
-uint32_t sheet_load(kl_processor *cpu, const uint8_t *bytes, size_t bytes_len,
-                    uint32_t *words, size_t words_len, uint32_t *owners, size_t owners_len,
-                    uint64_t *jumpers, size_t jumpers_len, uint64_t *writers, size_t writers_len);
-
+/* ---- sheet.c ---- */
 uint32_t sheet_step(kl_processor *cpu,
                     uint32_t *words, size_t words_len, uint32_t *owners, size_t owners_len,
-                    uint64_t *jumpers, size_t jumpers_len, uint64_t *writers, size_t writers_len);
+                    uint64_t *jumpers, size_t jumpers_len, uint64_t *writers, size_t writers_len,
+                    uint64_t *readers, size_t readers_len);
 
 uint32_t sheet_run(kl_processor *cpu,
                    uint32_t *words, size_t words_len, uint32_t *owners, size_t owners_len,
                    uint64_t *jumpers, size_t jumpers_len, uint64_t *writers, size_t writers_len,
-                   uint32_t budget, uint32_t *count);
+                   uint64_t *readers, size_t readers_len, uint32_t budget, uint32_t *count);
 
 uint32_t sheet_decode(uint32_t word, uint32_t fields[4]);
 
 uint32_t sheet_encode(uint32_t op, uint32_t a, uint32_t b, uint32_t low, uint32_t *word);
+
+/* ---- sheet_images.c ---- */
+uint32_t sheet_load(kl_processor *cpu, bool strict, const uint8_t *bytes, size_t bytes_len,
+                    uint32_t *words, size_t words_len, uint32_t *owners, size_t owners_len,
+                    uint64_t *jumpers, size_t jumpers_len, uint64_t *writers, size_t writers_len,
+                    uint64_t *readers, size_t readers_len);
 
 uint32_t sheet_write(const uint32_t *words, size_t words_len, const uint32_t regs[16], uint32_t entry,
                      uint8_t *out, size_t out_len, size_t *length);

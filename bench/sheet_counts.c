@@ -1,8 +1,7 @@
 /* The sheet's counts in plain C: the addresses that a compartment owns, may jump to and may store to, "services
    counted", and the most widely writable word. */
 #include "sheet.h"
-
-enum { SERVICES = 3, FIRST_SERVICE = 4096 };
+#include "sheet_sizes.h"
 
 /* "each set one 64-bit number with a bit per compartment": a number from 64 on has no bit. */
 static bool in(uint64_t set, uint32_t number) { return number < 64 && (set >> number & 1) != 0; }
@@ -11,7 +10,7 @@ static bool in(uint64_t set, uint32_t number) { return number < 64 && (set >> nu
 static size_t places(const kl_processor *cpu, size_t lent) { return lent < cpu->n ? lent : cpu->n; }
 
 /* Each address is counted once: at a service's address the service, unless memory reaches it. */
-static bool is_service(const kl_processor *cpu, uint32_t s) { return cpu->n <= FIRST_SERVICE + s; }
+static bool counts(const kl_processor *cpu, uint32_t s) { return cpu->n <= ISOLATE + s; }
 
 static uint32_t sets_with(const uint64_t *sets, size_t count, uint32_t number)
 {
@@ -20,12 +19,12 @@ static uint32_t sets_with(const uint64_t *sets, size_t count, uint32_t number)
     return found;
 }
 
-/* "addresses owned": a word is its owner's, and the services are those of 1, 2 and 3. */
+/* "addresses owned": a word is its owner's, and the services are those of 1, 2 and 3, in strict mode of 4 too. */
 uint32_t sheet_owned(const kl_processor *cpu, const uint32_t *owners, size_t owners_len, uint32_t number)
 {
     uint32_t found = 0;
     for (size_t x = places(cpu, owners_len); x > 0; x--) found += owners[x - 1] == number;
-    if (number >= 1 && number <= SERVICES) found += is_service(cpu, number - 1);
+    if (is_service_number(cpu->strict, number)) found += counts(cpu, number - 1);
     return found;
 }
 
@@ -33,8 +32,8 @@ uint32_t sheet_owned(const kl_processor *cpu, const uint32_t *owners, size_t own
 uint32_t sheet_jumps(const kl_processor *cpu, const uint64_t *jumpers, size_t jumpers_len, uint32_t number)
 {
     uint32_t found = sets_with(jumpers, places(cpu, jumpers_len), number);
-    for (uint32_t s = 0; s < SERVICES; s++)
-        if (is_service(cpu, s)) found += in(cpu->services[s], number);
+    for (uint32_t s = 0; s < service_count(cpu->strict); s++)
+        if (counts(cpu, s)) found += in(cpu->services[s], number);
     return found;
 }
 

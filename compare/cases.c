@@ -50,7 +50,7 @@ void words_case(void)
 
 /* ---- images ---- */
 
-static void load_over(size_t length, const size_t lent[MEMORIES])
+static void load_over(bool strict, size_t length, const size_t lent[MEMORIES])
 {
     size_t longest = 0;
     for (int m = 0; m < MEMORIES; m++)
@@ -58,10 +58,14 @@ static void load_over(size_t length, const size_t lent[MEMORIES])
     noise(&sheet, longest);
     memcpy(sheet.lent, lent, sizeof sheet.lent);
     begin();
-    check_load(&ours, &sheet, bytes, length);
+    check_load(&ours, &sheet, strict, bytes, length);
 }
 
-static void load_equal(size_t length, size_t lent) { load_over(length, (size_t[]){lent, lent, lent, lent}); }
+/* In either mode, over memories of one length. */
+static void load_equal(size_t length, size_t lent)
+{
+    for (int strict = 0; strict < 2; strict++) load_over(strict, length, (size_t[]){lent, lent, lent, lent, lent});
+}
 
 /* An image whole, cut at each length, with bytes after it, and with each byte changed, over memories of 0 to n + 3
    places and over memories of which one differs. */
@@ -71,10 +75,13 @@ static void around_image(uint32_t n)
     for (size_t lent = 0; lent <= n + 3; lent++) {
         for (size_t cut = 0; cut <= length + 9; cut++) load_equal(cut, lent);
         for (size_t i = 0; i < 4 * MEMORIES; i++) {
-            size_t lengths[MEMORIES] = {lent, lent, lent, lent};
+            size_t lengths[MEMORIES] = {lent, lent, lent, lent, lent};
             lengths[i / 4] += i % 4;
-            load_over(length, lengths);
+            for (int strict = 0; strict < 2; strict++) load_over(strict, length, lengths);
         }
+        for (size_t readers = 0; readers < lent; readers++)
+            for (int strict = 0; strict < 2; strict++)
+                load_over(strict, length, (size_t[]){lent, lent, lent, lent, readers});
     }
     for (size_t i = 0; i < length; i++)
         for (uint32_t change = 1; change < 256; change = change * 2 + 1) {
@@ -103,6 +110,7 @@ void fixed_images(void)
 void images_case(void)
 {
     const uint32_t n = some_size();
+    const bool strict = one_in(2);
     size_t length = make_image(bytes, n), lent[MEMORIES];
     for (int m = 0; m < MEMORIES; m++) lent[m] = n;
     while (!one_in(3)) {
@@ -113,9 +121,10 @@ void images_case(void)
     if (one_in(16)) for (int m = 0; m < MEMORIES; m++) lent[m] = below(n + 1);
     const uint32_t other = below(MEMORIES);
     if (one_in(16)) lent[other] = below(n + 4);
+    if (one_in(strict ? 16 : 2)) lent[READERS] = below(n + 8);
     if (!one_in(4)) spoil_image(bytes, &length);
     if (one_in(8)) spoil_image(bytes, &length);
-    load_over(length > IMAGE_MOST + 40 ? IMAGE_MOST + 40 : length, lent);
+    load_over(strict, length > IMAGE_MOST + 40 ? IMAGE_MOST + 40 : length, lent);
 }
 
 /* ---- the writer ---- */
@@ -181,25 +190,26 @@ static void go_on(uint32_t most)
 
 void states_case(void)
 {
-    make_state(&sheet, some_size());
+    make_state(&sheet, some_size(), one_in(2));
     go_on(4);
 }
 
 void refused_case(void)
 {
-    make_state(&sheet, one_in(100) ? 2048 : some_size());
+    make_state(&sheet, one_in(100) ? 2048 : some_size(), one_in(2));
     spoil_state(&sheet);
     if (sheet.cpu.n > 2040 && sheet.cpu.n < 2056) lend(&sheet, sheet.kept - 4);
     go_on(1);
 }
 
-/* A', J' and S' are one set of 1,023 pairs that fill a memory of 2,048 words; then with one pair or the count other. */
-static void full_set(uint32_t count, uint32_t place, uint32_t first, uint32_t past)
+/* A', J', S' and R' are one set of 1,023 pairs that fill a memory of 2,048 words; then with one pair or the count
+   other. */
+static void full_set(bool strict, uint32_t count, uint32_t place, uint32_t first, uint32_t past)
 {
-    make_state(&sheet, 2048);
+    make_state(&sheet, 2048, strict);
     kl_processor *p = &sheet.cpu;
     p->pc = ISOLATE, p->prev = 0, p->jumped = true, p->next = 63, p->services[0] |= 1;
-    p->regs[1] = p->regs[2] = p->regs[3] = 0, p->regs[15] = 5;
+    p->regs[1] = p->regs[2] = p->regs[3] = p->regs[4] = 0, p->regs[15] = 5;
     sheet.words[0] = count;
     for (uint32_t i = 0; i < 1023; i++) {
         sheet.words[1 + 2 * i] = i % 2 == 0 ? 1000 : 1000 + i;
@@ -211,30 +221,38 @@ static void full_set(uint32_t count, uint32_t place, uint32_t first, uint32_t pa
     check_step(&ours, &sheet);
 }
 
-void fixed_services(void)
+static void full_sets(bool strict)
 {
     static const uint32_t pairs[][2] = {{1000, 2048}, {0, UINT32_MAX}, {0, 4099}, {4096, 4099}, {2047, 2049}, {7, 7},
-                                        {5, 6},       {0, 1}};
+                                        {5, 6},       {0, 1},          {0, 4100}, {4096, 4100}};
     static const uint32_t counts[] = {1023, 1022, 0, 1024, 0x7FFFFFFF, 0x80000000, 0x80000001, 0x800003FF, UINT32_MAX};
     for (size_t i = 0; i < sizeof pairs / sizeof pairs[0]; i++)
-        for (uint32_t place = 0; place < 1023; place += 511) full_set(1023, place, pairs[i][0], pairs[i][1]);
-    for (size_t i = 0; i < sizeof counts / sizeof counts[0]; i++) full_set(counts[i], 0, 1000, 2048);
+        for (uint32_t place = 0; place < 1023; place += 511) full_set(strict, 1023, place, pairs[i][0], pairs[i][1]);
+    for (size_t i = 0; i < sizeof counts / sizeof counts[0]; i++) full_set(strict, counts[i], 0, 1000, 2048);
+}
+
+void fixed_services(void)
+{
+    full_sets(false);
+    full_sets(true);
 }
 
 void services_case(void)
 {
-    make_service_call(&sheet);
+    make_service_call(&sheet, one_in(2));
     go_on(2);
 }
 
 /* Loads a program on both sides and runs it in pieces, up to some thousand steps. */
 void programs_case(void)
 {
-    const size_t length = make_program(bytes), lent = PROGRAM_SIZE + below(5);
+    const bool strict = one_in(2);
+    const size_t length = make_program(bytes, strict), lent = PROGRAM_SIZE + below(5);
     noise(&sheet, lent);
     lend(&sheet, lent);
+    if (!strict && one_in(2)) sheet.lent[READERS] = below((uint32_t)lent + 5);
     begin();
-    if (check_load(&ours, &sheet, bytes, length) != 0) return;
+    if (check_load(&ours, &sheet, strict, bytes, length) != 0) return;
     for (uint32_t pieces = between(1, 6); pieces > 0; pieces--)
         if (check_run(&ours, &sheet, one_in(4) ? below(3000) : below(200)).answer != 0) break;
     check_step(&ours, &sheet);
@@ -250,22 +268,23 @@ void fixed_counts(void)
     static uint64_t jumpers[LONG], writers[LONG];
     noise(&sheet, 0);
     for (uint32_t x = 0; x < LONG; x++) owners[x] = below(70), jumpers[x] = roll(), writers[x] = roll() & roll();
-    for (uint32_t n = ISOLATE - 1; n <= ADD_STORE + 2; n++)
-        for (size_t length = ISOLATE - 1; length <= ADD_STORE + 2; length++) {
-            sheet.cpu.n = n;
-            check_counted(&(counted){&sheet.cpu, owners, jumpers, writers, {0, length, length, length}});
-        }
+    for (uint32_t n = ISOLATE - 1; n <= ADD_READ + 2; n++)
+        for (size_t length = ISOLATE - 1; length <= ADD_READ + 2; length++)
+            for (int strict = 0; strict < 2; strict++) {
+                sheet.cpu.n = n, sheet.cpu.strict = strict;
+                check_counted(&(counted){&sheet.cpu, owners, jumpers, writers, {0, length, length, length, 0}});
+            }
 }
 
 /* Memories of any lengths and any N, besides states that 14 lets pass. */
 void counts_case(void)
 {
-    make_state(&sheet, some_size());
+    make_state(&sheet, some_size(), one_in(2));
     const uint32_t most = (uint32_t)(sheet.kept - GUARD), kind = below(6);
     for (int m = 0; m < MEMORIES; m++)
         if (kind > 0) sheet.lent[m] = below(most + 1);
     if (kind == 1) sheet.cpu.n = below(most + 4);
-    if (kind == 2) sheet.cpu.n = between(ISOLATE - 1, ADD_STORE + 2);
+    if (kind == 2) sheet.cpu.n = between(ISOLATE - 1, ADD_READ + 2);
     if (kind == 3) sheet.cpu.n = any_number();
     begin();
     check_counts(&ours, &sheet);

@@ -88,9 +88,9 @@ static void show(const char *what, size_t place, uint64_t ours, uint64_t sheet)
 
 static void show_record(const char *title, const kl_processor *p)
 {
-    printf("%s: n %" PRIu32 " pc %" PRIu32 " prev %" PRIu32 " jumped %d next %" PRIu32 "\n  services", title, p->n,
-           p->pc, p->prev, p->jumped, p->next);
-    for (int i = 0; i < 3; i++) printf(" %016" PRIX64, p->services[i]);
+    printf("%s: n %" PRIu32 " pc %" PRIu32 " prev %" PRIu32 " jumped %d strict %d next %" PRIu32 "\n  services",
+           title, p->n, p->pc, p->prev, p->jumped, p->strict, p->next);
+    for (int i = 0; i < 4; i++) printf(" %016" PRIX64, p->services[i]);
     printf("\n  registers");
     for (int i = 0; i < 16; i++) printf(" %" PRIX32, p->regs[i]);
     printf("\n");
@@ -99,12 +99,12 @@ static void show_record(const char *title, const kl_processor *p)
 static void show_state(const state *s)
 {
     show_record("before", &s->cpu);
-    printf("lent lengths: words %zu owners %zu jumpers %zu writers %zu\n", s->lent[WORDS], s->lent[OWNERS],
-           s->lent[JUMPERS], s->lent[WRITERS]);
-    printf("place: word owner jumpers writers (hexadecimal; the guards past the lent lengths too)\n");
+    printf("lent lengths: words %zu owners %zu jumpers %zu writers %zu readers %zu\n", s->lent[WORDS], s->lent[OWNERS],
+           s->lent[JUMPERS], s->lent[WRITERS], s->lent[READERS]);
+    printf("place: word owner jumpers writers readers (hexadecimal; the guards past the lent lengths too)\n");
     for (size_t i = 0; i < s->kept; i++)
-        printf("%zu: %08" PRIX32 " %" PRIX32 " %016" PRIX64 " %016" PRIX64 "\n", i, s->words[i], s->owners[i],
-               s->jumpers[i], s->writers[i]);
+        printf("%zu: %08" PRIX32 " %" PRIX32 " %016" PRIX64 " %016" PRIX64 " %016" PRIX64 "\n", i, s->words[i],
+               s->owners[i], s->jumpers[i], s->writers[i], s->readers[i]);
 }
 
 static void show_differences(const state *ours, const state *sheet)
@@ -114,14 +114,16 @@ static void show_differences(const state *ours, const state *sheet)
     show("pc", ALONE, a->pc, b->pc);
     show("prev", ALONE, a->prev, b->prev);
     show("jumped", ALONE, a->jumped, b->jumped);
+    show("strict", ALONE, a->strict, b->strict);
     show("next", ALONE, a->next, b->next);
     for (size_t i = 0; i < 16; i++) show("register", i, a->regs[i], b->regs[i]);
-    for (size_t i = 0; i < 3; i++) show("set of service", i, a->services[i], b->services[i]);
+    for (size_t i = 0; i < 4; i++) show("set of service", i, a->services[i], b->services[i]);
     for (size_t i = 0; i < sheet->kept; i++) {
         show("word at", i, ours->words[i], sheet->words[i]);
         show("owner at", i, ours->owners[i], sheet->owners[i]);
         show("jumpers at", i, ours->jumpers[i], sheet->jumpers[i]);
         show("writers at", i, ours->writers[i], sheet->writers[i]);
+        show("readers at", i, ours->readers[i], sheet->readers[i]);
     }
 }
 
@@ -136,22 +138,26 @@ void copy_state(state *to, const state *from)
     memcpy(to->owners, from->owners, from->kept * sizeof to->owners[0]);
     memcpy(to->jumpers, from->jumpers, from->kept * sizeof to->jumpers[0]);
     memcpy(to->writers, from->writers, from->kept * sizeof to->writers[0]);
+    memcpy(to->readers, from->readers, from->kept * sizeof to->readers[0]);
 }
 
 static bool same_record(const kl_processor *a, const kl_processor *b)
 {
-    return a->n == b->n && a->pc == b->pc && a->prev == b->prev && a->jumped == b->jumped && a->next == b->next &&
+    return a->n == b->n && a->pc == b->pc && a->prev == b->prev && a->jumped == b->jumped && a->strict == b->strict &&
+           a->next == b->next &&
            memcmp(a->regs, b->regs, sizeof a->regs) == 0 && memcmp(a->services, b->services, sizeof a->services) == 0;
 }
 
 /* Whether the memories are equal from the given place of each on, up to the last guard. */
 static bool same_from(const state *a, const state *b, const size_t from[MEMORIES])
 {
-    const size_t w = from[WORDS], o = from[OWNERS], j = from[JUMPERS], r = from[WRITERS], kept = b->kept;
+    const size_t w = from[WORDS], o = from[OWNERS], j = from[JUMPERS], s = from[WRITERS], r = from[READERS];
+    const size_t kept = b->kept;
     return memcmp(a->words + w, b->words + w, (kept - w) * sizeof a->words[0]) == 0 &&
            memcmp(a->owners + o, b->owners + o, (kept - o) * sizeof a->owners[0]) == 0 &&
            memcmp(a->jumpers + j, b->jumpers + j, (kept - j) * sizeof a->jumpers[0]) == 0 &&
-           memcmp(a->writers + r, b->writers + r, (kept - r) * sizeof a->writers[0]) == 0;
+           memcmp(a->writers + s, b->writers + s, (kept - s) * sizeof a->writers[0]) == 0 &&
+           memcmp(a->readers + r, b->readers + r, (kept - r) * sizeof a->readers[0]) == 0;
 }
 
 static const size_t WHOLE[MEMORIES] = {0};
@@ -226,14 +232,18 @@ void check_counted(const counted *lent)
 /* ---- what is left ---- */
 
 /* Compares what the two sides told and left. On the sheet's side it looks, too, that no guard moved and that what
-   the sheet says is kept was kept: the memories by `keeps_memories`, the record by `keeps_record`. */
+   the sheet says is kept was kept: the memories by `keeps_memories`, the record by `keeps_record`, and the readers in
+   01's mode always. */
 static void settle(const char *call, const state *before, const state *ours, const state *sheet, told a, told b,
                    bool keeps_memories, bool keeps_record)
 {
+    size_t guarded[MEMORIES];
+    memcpy(guarded, sheet->lent, sizeof guarded);
+    if (!sheet->cpu.strict) guarded[READERS] = 0;
     count_case(b.answer);
     const bool same = a.answer == b.answer && a.count == b.count && same_record(&ours->cpu, &sheet->cpu) &&
                       same_from(ours, sheet, WHOLE);
-    const bool sound = same_from(sheet, before, keeps_memories ? WHOLE : sheet->lent) &&
+    const bool sound = same_from(sheet, before, keeps_memories ? WHOLE : guarded) &&
                        (!keeps_record || same_record(&sheet->cpu, &before->cpu));
     if (same && sound) {
         if (now.cases % COUNTED == 0) compare_counts(ours, sheet);
@@ -251,10 +261,10 @@ static void settle(const char *call, const state *before, const state *ours, con
 
 /* ---- the calls ---- */
 
-/* The four memories of a state as a call takes them: pointer, then length. */
+/* The five memories of a state as a call takes them: pointer, then length. */
 #define LENT(s)                                                                                                \
     (s)->words, (s)->lent[WORDS], (s)->owners, (s)->lent[OWNERS], (s)->jumpers, (s)->lent[JUMPERS], (s)->writers, \
-        (s)->lent[WRITERS]
+        (s)->lent[WRITERS], (s)->readers, (s)->lent[READERS]
 
 static state before;
 
@@ -306,13 +316,13 @@ told check_run(state *ours, state *sheet, uint32_t budget)
     return b;
 }
 
-uint32_t check_load(state *ours, state *sheet, const uint8_t *bytes, size_t length)
+uint32_t check_load(state *ours, state *sheet, bool strict, const uint8_t *bytes, size_t length)
 {
     static char call[64 + 3 * BYTES_ROOM];
-    size_t at = (size_t)snprintf(call, 64, "kl_load of %zu bytes:", length);
+    size_t at = (size_t)snprintf(call, 64, "kl_load of %zu bytes, strict %d:", length, strict);
     copy_state(&before, sheet);
-    const told a = {kl_load(&ours->cpu, bytes, length, LENT(ours)), 0};
-    const told b = {sheet_load(&sheet->cpu, bytes, length, LENT(sheet)), 0};
+    const told a = {kl_load(&ours->cpu, strict, bytes, length, LENT(ours)), 0};
+    const told b = {sheet_load(&sheet->cpu, strict, bytes, length, LENT(sheet)), 0};
     if (a.answer != b.answer || !same_record(&ours->cpu, &sheet->cpu) || !same_from(ours, sheet, WHOLE))
         for (size_t i = 0; i < length; i++) at += (size_t)snprintf(call + at, 4, " %02X", bytes[i]);
     settle(call, &before, ours, sheet, a, b, b.answer != 0, false);

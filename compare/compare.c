@@ -9,18 +9,20 @@
 #include <stdlib.h>
 #include <unistd.h>
 
-_Static_assert(sizeof(kl_processor) == 112 && offsetof(kl_processor, services) == 88, "the record's layout on x86-64");
+_Static_assert(sizeof(kl_processor) == 120 && offsetof(kl_processor, strict) == 77 &&
+                   offsetof(kl_processor, next) == 80 && offsetof(kl_processor, services) == 88,
+               "the record's layout on x86-64");
 
 /* A kind of cases: what is done once, and what is done COUNT times with other dice. */
 static const struct kind {
     const char *name;
     void (*once)(void), (*again)(void);
 } KINDS[] = {
-    {"lines", sheet_lines, NULL},          {"words", fixed_words, words_case},
-    {"images", fixed_images, images_case}, {"writes", fixed_writes, writes_case},
-    {"states", NULL, states_case},         {"refused", NULL, refused_case},
-    {"services", fixed_services, services_case}, {"programs", NULL, programs_case},
-    {"counts", fixed_counts, counts_case},
+    {"lines", sheet_lines, NULL},          {"strict", strict_lines, NULL},
+    {"words", fixed_words, words_case},    {"images", fixed_images, images_case},
+    {"writes", fixed_writes, writes_case}, {"states", NULL, states_case},
+    {"refused", NULL, refused_case},       {"services", fixed_services, services_case},
+    {"programs", NULL, programs_case},     {"counts", fixed_counts, counts_case},
 };
 
 /* One line that is written over on a terminal; elsewhere a line where a kind begins and at each quarter. */

@@ -4,19 +4,19 @@
 
 #include "kldemuvash.h"
 #include "sheet.h"
+#include "sheet_sizes.h"
 
-enum { WORDS, OWNERS, JUMPERS, WRITERS, MEMORIES };
+enum { WORDS, OWNERS, JUMPERS, WRITERS, READERS, MEMORIES };
 enum { GUARD = 8, ROOM = 2048 + 16 + GUARD, IMAGE_MOST = 8272, BYTES_ROOM = IMAGE_MOST + 64 };
-enum { ISOLATE = 4096, ADD_JUMP = 4097, ADD_STORE = 4098 };
 enum { PROGRAM_SIZE = 144 };
 
-/* A record, the four memories beside it and the lengths that are lent. The places from a lent length on, up to
+/* A record, the five memories beside it and the lengths that are lent. The places from a lent length on, up to
    `kept`, guard the memory's end: no call may touch them. */
 typedef struct state {
     kl_processor cpu;
     size_t lent[MEMORIES], kept;
     uint32_t words[ROOM], owners[ROOM];
-    uint64_t jumpers[ROOM], writers[ROOM];
+    uint64_t jumpers[ROOM], writers[ROOM], readers[ROOM];
 } state;
 
 /* What the counts are lent. */
@@ -43,21 +43,21 @@ uint32_t near_address(uint32_t n);                /* mostly in a memory of n wor
 uint32_t any_instruction(void);                   /* a word that decodes */
 
 /* ---- make.c: random states, sets and images ---- */
-void make_state(state *s, uint32_t n);            /* one that 14 lets pass, most often */
+void make_state(state *s, uint32_t n, bool strict); /* one that 14 lets pass, most often */
 uint32_t some_size(void);                         /* N: mostly small */
 void spoil_state(state *s);                       /* so that 14 or 15 turn it away, most often */
-void make_service_call(state *s);                 /* pc at a service, with sets that are mostly good */
+void make_service_call(state *s, bool strict);    /* pc at a service, with sets that are mostly good */
 size_t make_image(uint8_t *bytes, uint32_t n);    /* a valid image; gives its length */
-size_t make_program(uint8_t *bytes);              /* a valid image of PROGRAM_SIZE words that runs for a while */
+size_t make_program(uint8_t *bytes, bool strict); /* a valid image of PROGRAM_SIZE words that runs for a while */
 void spoil_image(uint8_t *bytes, size_t *length);
 void noise(state *s, size_t longest);             /* fills record and memories; kept = longest + GUARD */
-void lend(state *s, size_t length);               /* lends all four memories at this length */
+void lend(state *s, size_t length);               /* lends all five memories at this length */
 
 /* ---- check.c: calls both sides, compares all they left, reports a difference and ends; gives what they told ---- */
 uint32_t check_step(state *ours, state *sheet);   /* our side within a limit of time */
 double slowest_step(void);                        /* of our side so far, in milliseconds */
 told check_run(state *ours, state *sheet, uint32_t budget);
-uint32_t check_load(state *ours, state *sheet, const uint8_t *bytes, size_t length);
+uint32_t check_load(state *ours, state *sheet, bool strict, const uint8_t *bytes, size_t length);
 void check_decode(uint32_t word);
 void check_encode(uint32_t op, uint32_t a, uint32_t b, uint32_t low);
 void check_write(const uint32_t *words, size_t n, const uint32_t regs[16], uint32_t entry, size_t out_len);
@@ -69,7 +69,7 @@ void begin_kind(const char *name, uint64_t seed);
 void begin_case(uint64_t number);
 uint64_t end_kind(void);                          /* prints the kind's counts; gives its cases */
 
-/* ---- cases.c, lines.c: the kinds ---- */
+/* ---- cases.c, lines.c, strict.c: the kinds ---- */
 void fixed_words(void);
 void fixed_images(void);
 void fixed_writes(void);
@@ -84,5 +84,15 @@ void services_case(void);
 void programs_case(void);
 void counts_case(void);
 void sheet_lines(void);
+void strict_lines(void);
+
+/* ---- lines.c: a program, and what its run must come to on both sides ---- */
+extern state line_ours, line_sheet;               /* the states of the two sides */
+void load_words(const uint32_t *words, uint32_t n, bool strict);
+void set_both(void);                              /* the sheet's side was changed: the same on ours */
+void runs(const char *line, uint32_t budget, uint32_t answer, uint32_t count, uint32_t pc);
+void row(uint32_t c, uint32_t owned, uint32_t jump, uint32_t store);
+
+#define LOAD(words, strict) load_words(words, sizeof(words) / sizeof((words)[0]), strict)
 
 #endif

@@ -27,9 +27,9 @@ bool one_in(uint32_t n) { return below(n) == 0; }
 
 uint32_t any_number(void)
 {
-    static const uint32_t edges[] = {0,          1,          2,          3,    4,    15,   16,   63,   64,
-                                     65,         0x7FFF,     0x8000,     0xFFFF, 2047, 2048, 2049, 4095, 4096,
-                                     4097,       4098,       4099,       0x10000, 0x7FFFFFFF, 0x80000000,
+    static const uint32_t edges[] = {0,          1,          2,          3,    4,    5,    16,   63,   64,
+                                     65,         15,         0x7FFF,     0x8000,     0xFFFF, 2047, 2048, 2049, 4095, 4096,
+                                     4097,       4098,       4099,       4100, 0x10000, 0x7FFFFFFF, 0x80000000,
                                      0xFFFFFFFE, 0xFFFFFFFF};
     switch (below(4)) {
     case 0: return below(16);
@@ -42,7 +42,7 @@ uint32_t near_address(uint32_t n)
 {
     switch (below(12)) {
     case 0: return n - 1 + below(3);
-    case 1: return ISOLATE - 1 + below(5);
+    case 1: return ISOLATE - 1 + below(6);
     case 2: return any_number();
     default: return n > 0 ? below(n) : 0;
     }

@@ -53,8 +53,12 @@ void spoil_image(uint8_t *bytes, size_t *length)
 
 /* ---- programs ---- */
 
-/* In every program: r1, r2, r3 point at A', J', S'; r4, r5, r6 are the services; r7 is 1; r8 to r14 are addresses. */
-enum { A_AT = 40, J_AT = 44, S_AT = 50, CHILD = 56, DATA = 72, SIZE = PROGRAM_SIZE };
+/* In every program: r1, r2, r3, r4 point at A', J', S', R'; r0, r5, r6, r8 are the services; r7 is 1; r9 to r14 are
+   addresses. */
+enum { A_AT = 40, J_AT = 44, S_AT = 50, R_AT = 53, CHILD = 56, DATA = 72, SIZE = PROGRAM_SIZE };
+
+/* Whether the program is meant for strict mode; else it calls 4099 seldom, for it stops there. */
+static bool fenced;
 
 /* A set of one pair. */
 static void put_set(uint32_t at, uint32_t first, uint32_t past)
@@ -71,25 +75,27 @@ static void put_pair(uint32_t at, uint32_t first, uint32_t past)
 
 static void usual_registers(void)
 {
-    const uint32_t usual[] = {0, A_AT, J_AT, S_AT, ISOLATE, ADD_JUMP, ADD_STORE, 1};
+    const uint32_t usual[] = {ISOLATE, A_AT, J_AT, S_AT, R_AT, ADD_JUMP, ADD_STORE, 1, ADD_READ};
     memcpy(regs, usual, sizeof usual);
-    for (int i = 8; i < 16; i++) regs[i] = between(1, SIZE - 1);
+    for (int i = 9; i < 16; i++) regs[i] = between(1, SIZE - 1);
     for (uint32_t i = 0; i < SIZE; i++) words[i] = below(SIZE);
     const uint32_t low = between(0, 8), middle = between(4, 12), high = between(14, 40);
-    const uint32_t service = between(ISOLATE, ADD_STORE), child = between(CHILD, DATA), past = between(DATA + 5, SIZE);
+    const uint32_t past_services = ISOLATE + service_count(fenced), service = between(ISOLATE, past_services - 1);
+    const uint32_t child = between(CHILD, DATA), past = between(DATA + 5, SIZE);
     put_set(A_AT, child, past);
     put_set(J_AT, low, high);
     if (one_in(4)) put_pair(J_AT, middle, high - 1); /* pairs that overlap */
-    else put_pair(J_AT, service, ADD_STORE + 1);
+    else put_pair(J_AT, service, past_services);
     put_set(S_AT, DATA + 4, past);
+    put_set(R_AT, between(0, DATA + 4), past);
 }
 
-static uint32_t own_register(void) { return between(8, 14); }
+static uint32_t own_register(void) { return between(9, 14); }
 
 /* An instruction of a random program, mostly one that leaves the registers useful. */
 static uint32_t program_word(void)
 {
-    const uint32_t kind = below(16), r = own_register(), s = own_register(), d = own_register(), at = below(SIZE);
+    const uint32_t kind = below(18), r = own_register(), s = own_register(), d = own_register(), at = below(SIZE);
     switch (kind) {
     case 0: return instruction(3 + at % 5, r, 7, d);
     case 1: return instruction(3 + at % 5, r, s, d);
@@ -100,12 +106,14 @@ static uint32_t program_word(void)
     case 6: return BNZ_(r, (int)(at % 13) - 6);
     case 7: return JUMP_(one_in(2) ? 15 : r);
     case 8: return JAL_(r);
-    case 9: return JAL_(4);
+    case 9: return JAL_(0);
     case 10: return JAL_(5);
     case 11: return JAL_(6);
     case 12: return CONST_(at, 1);
     case 13: return CONST_(A_AT, 1);
     case 14: return one_in(4) ? any_instruction() : CONST_(CHILD + at % (DATA - CHILD), d);
+    case 15: return JAL_(fenced || one_in(8) ? 8 : 6);
+    case 16: return LOAD_(r, d);
     default: return CONST_(at, d);
     }
 }
@@ -126,11 +134,13 @@ static void random_program(void)
 static void isolate_loop(void)
 {
     const uint32_t target = below(DATA), odd = below(64), jump = mostly(2, JAL_(5)), store = mostly(2, JAL_(6));
+    const uint32_t read = fenced ? mostly(2, JAL_(8)) : NOP_;
     const uint32_t loop[] = {CONST_(DATA, 9), CONST_(A_AT + 1, 12), CONST_(A_AT + 2, 13), STORE_(12, 9),
-                             ADD_(9, 7, 10), STORE_(13, 10), CONST_(A_AT, 1), JAL_(4), CONST_(target, 1),
-                             jump, store, ADD_(9, 7, 9), BNZ_(7, -9)};
+                             ADD_(9, 7, 10), STORE_(13, 10), CONST_(A_AT, 1), JAL_(0), CONST_(target, 1),
+                             jump, store, read, ADD_(9, 7, 9), BNZ_(7, -10)};
     memcpy(words, loop, sizeof loop);
     put_set(S_AT, target, DATA);
+    put_set(R_AT, target, DATA);
     if (odd < 16) words[odd] = program_word();
 }
 
@@ -138,19 +148,21 @@ static void isolate_loop(void)
 static void parent_and_child(void)
 {
     const uint32_t jump = mostly(8, JAL_(5)), store = mostly(2, JAL_(6)), change = mostly(2, STORE_(9, 10));
-    const uint32_t parent[] = {CONST_(CHILD, 1), jump, CONST_(DATA + 4, 1), store, CONST_(A_AT, 1), JAL_(4),
-                               CONST_(DATA + 4, 9), CONST_(CHILD, 8), JAL_(8), LOAD_(9, 10), ADD_(10, 7, 10), change,
+    const uint32_t read = fenced ? mostly(2, JAL_(8)) : NOP_;
+    const uint32_t parent[] = {CONST_(CHILD, 1), jump, CONST_(DATA + 4, 1), store, read, CONST_(A_AT, 1), JAL_(0),
+                               CONST_(DATA + 4, 9), CONST_(CHILD, 11), JAL_(11), LOAD_(9, 10), ADD_(10, 7, 10), change,
                                BNZ_(7, -4)};
     memcpy(words, parent, sizeof parent);
     put_set(A_AT, CHILD, one_in(2) ? DATA : DATA + 8);
     for (uint32_t i = CHILD; i < CHILD + 8; i++)
-        words[i] = one_in(3) ? program_word() : one_in(2) ? STORE_(9, 10) : ADD_(10, 7, 10);
+        words[i] = one_in(3) ? program_word() : one_in(3) ? LOAD_(9, 10) : one_in(2) ? STORE_(9, 10) : ADD_(10, 7, 10);
     words[CHILD + below(8)] = JUMP_(15);
     words[CHILD + 8] = JUMP_(15);
 }
 
-size_t make_program(uint8_t *bytes)
+size_t make_program(uint8_t *bytes, bool strict)
 {
+    fenced = strict;
     usual_registers();
     const uint32_t which = below(8);
     if (which < 4) random_program();

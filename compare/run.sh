@@ -10,5 +10,5 @@ me=compare
 
 find_tools
 find_library
-build compare "$root"/compare/*.c "$root/bench/sheet.c" "$root/bench/sheet_counts.c"
+build compare "$root"/compare/*.c "$root/bench/sheet.c" "$root/bench/sheet_images.c" "$root/bench/sheet_counts.c"
 exec ${emulator:+"$emulator"} "$program" "$@"

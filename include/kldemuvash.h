@@ -1,18 +1,26 @@
 /* The C interface of the verified library (target/staticlib/libhost.a, made by `rt staticlib host`).
 
-   A host keeps one kl_processor and four memories, and lends them to each call:
+   A host keeps one kl_processor and five memories, and lends them to each call:
      words    one 32-bit word per place
      owners   the compartment number that owns the place
      jumpers  the set I of the place, a bit per compartment: who may arrive there by a jump
      writers  the set W of the place, a bit per compartment: who may store there
+     readers  the set R of the place, a bit per compartment: who may load from there, in strict mode
    Memory is the places 0 to n-1; the memories may be longer, and the places from n on are neither
-   read nor changed. Services are at 4096 (isolate), 4097 (add jump target), 4098 (add store target).
+   read nor changed. Services are at 4096 (isolate), 4097 (add jump target), 4098 (add store target) and,
+   in strict mode, 4099 (add read target).
+
+   kl_load chooses the mode, and the record keeps it. In strict mode a Load needs the owner of the word or
+   one of its readers, isolate takes a fourth set, and there is a fourth service, which is compartment 4's.
+   In the other mode reading is free to all, 4099 is no place, 4 is a compartment number like any other, and
+   the readers are neither looked at nor changed, whatever their length.
 
    Every call takes any values and always returns. Each answer is one number; 0 means done. A call that
    answers another number leaves everything it was lent as it was, except where its comment says more.
    The four counts (kl_owned, kl_jumps, kl_stores, kl_widest) answer a count and change nothing.
    What the host owes: each pointer is not null and points at as many places as its length says (also
-   where the length is 0), what is lent to one call does not overlap, and `jumped` is true or false.
+   where the length is 0, and the readers' also where they are not looked at), what is lent to one call
+   does not overlap, and `jumped` and the mode are true or false.
 
    On x86-64 Linux; usable from C (C99 on) and C++. */
 #ifndef KLDEMUVASH_H
@@ -27,46 +35,62 @@ extern "C" {
 #endif
 
 /* The processor's numbers. The host may read them at any time and may set them as it likes: a step
-   answers 14 or 15 where they do not form a state. */
+   answers 14 or 15 where they do not form a state. It may set the mode, too: the next call then follows it. */
 typedef struct kl_processor {
     uint32_t n;           /* N, the number of memory words: 1 to 2,048; 0 after a refused load */
     uint32_t regs[16];    /* r0 to r15; r15 takes the return address */
     uint32_t pc;          /* the address of the next instruction */
     uint32_t prev;        /* the pc number: the compartment that ran last */
     bool jumped;          /* whether the last step was a Jump, a Jal or a service */
-    uint32_t next;        /* the first unused compartment number: 4 to 64 */
-    uint64_t services[3]; /* the sets I of 4096, 4097 and 4098 */
+    bool strict;          /* the mode: whether a Load needs the owner or a reader */
+    uint32_t next;        /* the first unused compartment number: 4 to 64, in strict mode 5 to 64 */
+    uint64_t services[4]; /* the sets I of 4096 to 4099; the last is looked at and changed in strict mode only */
 } kl_processor;
 
-/* Loads the image in `bytes`.
-   Answers 0: the first N places of each memory are filled (words from the image, owner 0, I = {1, 2, 3},
-   W empty), the places from N on keep their contents, and the record is the loaded one (registers and pc
-   from the image, prev 0, not jumped, next 4, each service's set {0}).
-   Answers, the first that applies: 27 the four memories differ in length; then from left to right
-   20 a field is not whole, 21 N not 1 to 2,048, 28 N above the lent length, 22 more than 16 registers,
-   23 the last listed register is 0, 24 entry count not 1, 25 entry not below N; then 26 bytes left over.
-   A refused load leaves the four memories as they were and the record blank: n 0, registers 0, pc 0,
-   prev 0, not jumped, next 4, each service's set {0}. */
-uint32_t kl_load(kl_processor *cpu, const uint8_t *bytes, size_t bytes_len,
+/* Loads the image in `bytes` for a run in the mode `strict`; what the record held does not matter.
+   Answers 0: the first N places of the first four memories are filled (words from the image, owner 0,
+   I = {1, 2, 3}, W empty), the places from N on keep their contents, and so do the readers; the record is
+   the loaded one (registers and pc from the image, prev 0, not jumped, the mode, next 4, each service's set
+   {0}). In strict mode the first N places of the readers are filled, too (R empty), I is {1, 2, 3, 4} and
+   next is 5.
+   Answers, the first that applies: 27 the first four memories differ in length, or in strict mode the five;
+   then from left to right 20 a field is not whole, 21 N not 1 to 2,048, 28 N above the lent length, 22 more
+   than 16 registers, 23 the last listed register is 0, 24 entry count not 1, 25 entry not below N; then 26
+   bytes left over.
+   A refused load leaves the five memories as they were and the record blank: n 0, registers 0, pc 0,
+   prev 0, not jumped, the mode asked for, next 4 (in strict mode 5), each service's set {0}. In either mode
+   all four sets of `services` are {0} after a load, accepted or refused. */
+uint32_t kl_load(kl_processor *cpu, bool strict, const uint8_t *bytes, size_t bytes_len,
                  uint32_t *words, size_t words_len, uint32_t *owners, size_t owners_len,
-                 uint64_t *jumpers, size_t jumpers_len, uint64_t *writers, size_t writers_len);
+                 uint64_t *jumpers, size_t jumpers_len, uint64_t *writers, size_t writers_len,
+                 uint64_t *readers, size_t readers_len);
 
 /* Makes one step.
    Answers 0: the step ran, and the record and the memories are the state after it.
    Answers 1: the instruction is a Halt.
-   Answers 2 to 13: the step stops. 2 pc is neither in memory nor a service; 3 no instruction; 4 arrival
+   Answers 2 to 13 or 17: the step stops. 2 pc is neither in memory nor a service; 3 no instruction; 4 arrival
    not allowed; 5 Load outside memory; 6 Store outside memory; 7 Store not allowed; 8 a set of isolate is
    not inside memory or has first >= past; 9 A' is empty; 10 a set goes beyond what the caller has; 11 the
-   caller does not own the target; 12 the return address is not the caller's; 13 no compartment is left.
-   Answers 14: the memories differ in length, n is not 1 to 2,048 or is above that length, next is not 4 to
-   64, prev is not below next, or prev is 1, 2 or 3 while pc is a service.
+   caller does not own the target; 12 the return address is not the caller's; 13 no compartment is left; 17
+   Load not allowed.
+   Answers 14: the first four memories differ in length, n is not 1 to 2,048 or is above that length, next is
+   not 4 to 64, prev is not below next, or prev is 1, 2 or 3 while pc is a service.
    Answers 15: the owner of the word at pc is 1, 2, 3 or not below next.
-   The first that applies is given, in the order 14, 2, 15, 4; then at a memory word 3, and 5, 6, 7 or 1 by
-   its instruction; at isolate 8, 9, 10, 12, 13; at the other services 11, 12.
+   The first that applies is given, in the order 14, 2, 15, 4; then at a memory word 3, and 5 and 17, 6 and 7,
+   or 1 by its instruction; at isolate 8, 9, 10, 12, 13; at the other services 11, 12.
+   In strict mode, and only there: 17 is given where the owner of a Load neither owns the word that it would
+   read nor is among its readers. isolate takes a fourth set, R', at r4, after S': 8 looks at it as at the
+   other three, and is given, too, where the caller neither owns a word of one of the four sets (its count or
+   a pair) nor is among its readers; 10 wants every address of R' to be a word that the caller owns or is
+   among the readers of; where isolate runs, the new compartment joins the readers of each word of R'. The
+   service at 4099 puts the caller among the readers of the word at r1. 14 looks at the lengths of all five
+   memories and wants next to be 5 to 64, and 14 and 15 treat 4 as they treat 1, 2 and 3. Fetching is not
+   reading: the word at pc need not be readable.
    With any answer but 0 the record and the memories are as they were, and the next step answers alike. */
 uint32_t kl_step(kl_processor *cpu,
                  uint32_t *words, size_t words_len, uint32_t *owners, size_t owners_len,
-                 uint64_t *jumpers, size_t jumpers_len, uint64_t *writers, size_t writers_len);
+                 uint64_t *jumpers, size_t jumpers_len, uint64_t *writers, size_t writers_len,
+                 uint64_t *readers, size_t readers_len);
 
 /* Makes steps until one answers another number than 0, or `budget` of them answered 0.
    Answers that number, or 0 where the budget was used. *count is the number of steps that answered 0; the
@@ -74,7 +98,7 @@ uint32_t kl_step(kl_processor *cpu,
 uint32_t kl_run(kl_processor *cpu,
                 uint32_t *words, size_t words_len, uint32_t *owners, size_t owners_len,
                 uint64_t *jumpers, size_t jumpers_len, uint64_t *writers, size_t writers_len,
-                uint32_t budget, uint32_t *count);
+                uint64_t *readers, size_t readers_len, uint32_t budget, uint32_t *count);
 
 /* Takes an instruction word apart: fields[0] opcode, [1] field a, [2] field b, [3] the low 16 bits, all
    unsigned (a Bnz's offset as its raw 16 bits). Answers 0, or 3 where the word is no instruction; then the
@@ -109,7 +133,7 @@ uint32_t kl_assemble(const uint8_t *text, size_t text_len, uint8_t *out, size_t 
 uint32_t kl_disassemble(const uint32_t *words, size_t words_len, uint8_t *out, size_t out_len, size_t *length);
 
 /* Counts the addresses that compartment `number` owns: the places whose owner it is, and its service (4096
-   is 1's, 4097 is 2's, 4098 is 3's). In each of the four counts a place is looked at where it is below n and
+   is 1's, 4097 is 2's, 4098 is 3's, in strict mode 4099 is 4's). In each of the four counts a place is looked at where it is below n and
    below the length lent, and a service where n does not reach its address, so that each address counts once. */
 uint32_t kl_owned(const kl_processor *cpu, const uint32_t *owners, size_t owners_len, uint32_t number);
 

@@ -4,4 +4,5 @@ pub mod Promises
 pub mod Inner
 pub mod Counts
 pub mod Code
+pub mod Strict
 pub mod Sources

@@ -77,7 +77,7 @@ pub p-lines-spelled :
     × ((s : State) → At s 0x0C10FFFF → s .cpu .pc ≡ 0 → (reg (s .cpu .regs) 1 ≡ 0 → ⊥)
     → (step s .answer ≡ 0) × (step s .state .cpu .pc ≡ 4294967295) × (step (step s .state) .answer ≡ 2))
     × ((s : State) (word k : ℕ) → At s word → decode word ≡ instruction is.jump k 0 0 → reg (s .cpu .regs) k ≡ 4096 → TagsAsLoaded s
-    → goodSets s ≡ true → isEmpty (setA s) ≡ false → setsWithin s 0 ≡ true → inSet (setA s) 0 ≡ false
+    → goodSets s 0 ≡ true → isEmpty (setA s) ≡ false → setsWithin s 0 ≡ true → inSet (setA s) 0 ≡ false
     → (reg (s .cpu .regs) 15 ≡ 0
     → (run 2 s .answer ≡ 0) × (run 2 s .count ≡ 2) × (run 2 s .state .cpu .pc ≡ 0) × (arrives (run 2 s .state) ≡ true))
     × (reg (s .cpu .regs) 15 ≡ 4096 → (run 2 s .answer ≡ 12) × (run 2 s .count ≡ 1)))
@@ -97,6 +97,7 @@ pub step-number : (s : State) (k : ℕ) → (k ≡ 0 → ⊥)
     ∷ on 4 (of.noArrival s)
     ∷ on 3 (of.noInstruction s)
     ∷ on 5 (of.loadOutside s)
+    ∷ on 17 (of.loadForbidden s)
     ∷ on 6 (of.storeOutside s)
     ∷ on 7 (of.storeForbidden s)
     ∷ on 1 (of.halts s)
@@ -115,10 +116,10 @@ step-number = numbers.step-number
 pub step-done : (s : State) → (step s .answer ≡ 0) ↔ NoneHolds (of.checks s)
 step-done = numbers.step-done
 
-pub load-number : (bytes : List ℕ) (old : State) (k : ℕ) → (k ≡ 0 → ⊥)
-    → (load bytes old .answer ≡ k)
+pub load-number : (m : Bool) (bytes : List ℕ) (old : State) (k : ℕ) → (k ≡ 0 → ⊥)
+    → (load m bytes old .answer ≡ k)
     ↔ Exactly (
-    on 27 (of.lengthsDiffer old)
+    on 27 (of.lengthsDiffer m old)
     ∷ on 20 (not (whole bytes 0 1))
     ∷ on 21 (not (leb 1 (sizeIn bytes) && leb (sizeIn bytes) 2048))
     ∷ on 28 (not (leb (sizeIn bytes) (length (old .words))))
@@ -137,7 +138,7 @@ pub load-number : (bytes : List ℕ) (old : State) (k : ℕ) → (k ≡ 0 → �
 unfolding image-numbers.loadChecks image-numbers.lastZero
 load-number = image-numbers.load-number
 
-pub load-done : (bytes : List ℕ) (old : State) → (load bytes old .answer ≡ 0) ↔ NoneHolds (image-numbers.loadChecks bytes old)
+pub load-done : (m : Bool) (bytes : List ℕ) (old : State) → (load m bytes old .answer ≡ 0) ↔ NoneHolds (image-numbers.loadChecks m bytes old)
 load-done = image-numbers.load-done
 
 pub write-number : (words regs : List ℕ) (entry : ℕ) (out : List ℕ) (k : ℕ) → (k ≡ 0 → ⊥)
@@ -208,34 +209,37 @@ Beyond n before after = (drop n after ≡ drop n before) × (length after ≡ le
 pub nothing-changed : (budget : ℕ) (s : State)
     → Beyond (s .cpu .n) (s .words) (run budget s .state .words) × Beyond (s .cpu .n) (s .owners) (run budget s .state .owners)
     × Beyond (s .cpu .n) (s .jumpers) (run budget s .state .jumpers) × Beyond (s .cpu .n) (s .writers) (run budget s .state .writers)
+    × Beyond (s .cpu .n) (s .readers) (run budget s .state .readers)
 nothing-changed budget s =
     let k = rest.run-keeps-rest budget s in (
       (k .words .rest, k .words .same-length),
       (k .owners .rest, k .owners .same-length),
       (k .jumpers .rest, k .jumpers .same-length),
       (k .writers .rest, k .writers .same-length),
+      (k .readers .rest, k .readers .same-length),
     )
 
 -- one record over two sets of memories that agree below N, each of one length of its own from N on
-abbrev SameBelow : State → State → Type 0
+abbrev pub SameBelow : State → State → Type 0
 SameBelow s t =
     (s .cpu ≡ t .cpu) × (take (s .cpu .n) (s .words) ≡ take (s .cpu .n) (t .words)) × (take (s .cpu .n) (s .owners) ≡ take (s .cpu .n) (t .owners))
     × (take (s .cpu .n) (s .jumpers) ≡ take (s .cpu .n) (t .jumpers)) × (take (s .cpu .n) (s .writers) ≡ take (s .cpu .n) (t .writers))
+    × (s .cpu .strict ≡ true → take (s .cpu .n) (s .readers) ≡ take (s .cpu .n) (t .readers))
 
-abbrev OneLength : State → Type 0
+abbrev pub OneLength : State → Type 0
 OneLength s =
     (length (s .owners) ≡ length (s .words)) × (length (s .jumpers) ≡ length (s .words)) × (length (s .writers) ≡ length (s .words))
-    × (s .cpu .n ≤ length (s .words))
+    × (s .cpu .strict ≡ true → length (s .readers) ≡ length (s .words)) × (s .cpu .n ≤ length (s .words))
 
 -- read: they give the same answer and count, and agree below N again
 pub nothing-read : (budget : ℕ) (s t : State) → OneLength s → OneLength t → SameBelow s t
     → (run budget s .answer ≡ run budget t .answer) × (run budget s .count ≡ run budget t .count) × SameBelow (run budget s .state) (run budget t .state)
 nothing-read budget s t ls lt e =
     let r =
-    alike.run-alike budget s t (record { owners = ls .0; jumpers = ls .1; writers = ls .2; enough = ls .3 })
-    (record { owners = lt .0; jumpers = lt .1; writers = lt .2; enough = lt .3 })
-    (record { cpu = e .0; words = e .1; owners = e .2; jumpers = e .3; writers = e .4 }) in
-    (r .answer, r .count, (r .state .cpu, r .state .words, r .state .owners, r .state .jumpers, r .state .writers))
+    alike.run-alike budget s t (record { owners = ls .0; jumpers = ls .1; writers = ls .2; readers = ls .3; enough = ls .4 })
+    (record { owners = lt .0; jumpers = lt .1; writers = lt .2; readers = lt .3; enough = lt .4 })
+    (record { cpu = e .0; words = e .1; owners = e .2; jumpers = e .3; writers = e .4; readers = e .5 }) in
+    (r .answer, r .count, (r .state .cpu, r .state .words, r .state .owners, r .state .jumpers, r .state .writers, r .state .readers))
 
 -- ==== "Two outcomes allowed by one promise are proved equal": every public call; those that count are in Counts. An outcome
 -- is what the call hands back and every memory that it may change, at exit; the two premises are the call's contract, twice.
@@ -244,7 +248,7 @@ nothing-read budget s t ls lt e =
 pub none-once : (r q : Set) → r .0 ≡ empty → q .0 ≡ empty → r ≡ q
 none-once = sets.none-once
 
-pub of-services-once : (r q : Set) → r .0 ≡ services → q .0 ≡ services → r ≡ q
+pub of-services-once : (strict : Bool) (r q : Set) → r .0 ≡ services strict → q .0 ≡ services strict → r ≡ q
 of-services-once = sets.of-services-once
 
 pub contains-once : (self : Set) (number : ℕ) (r q : Bool) → r ≡ member (self .0) number → q ≡ member (self .0) number → r ≡ q
@@ -277,27 +281,27 @@ pub read-once : (places : List ℕ) (at r q : ℕ) → r ≡ getD places at 0 �
 read-once = memory.read-once
 
 -- moves: decide
-pub decide-once : (arrival : ℕ) (regs : List ℕ) (pc next n : ℕ) (words owners jumpers writers : List ℕ) (r q : Move)
-    → r ≡ moveFrom arrival regs pc next n words owners jumpers writers → q ≡ moveFrom arrival regs pc next n words owners jumpers writers → r ≡ q
+pub decide-once : (arrival : ℕ) (regs : List ℕ) (pc next : ℕ) (strict : Bool) (n : ℕ) (words owners jumpers writers readers : List ℕ) (r q : Move)
+    → r ≡ moveFrom arrival regs pc next strict n words owners jumpers writers readers → q ≡ moveFrom arrival regs pc next strict n words owners jumpers writers readers → r ≡ q
 decide-once = moves.decide-once
 
--- monitor: isolate, with the owners, jumpers and writers; add_target, with the sets
-pub isolate-once : (s : State) (o p : Isolated × List ℕ × List ℕ × List ℕ) → isolatingOf (o .0) (o .1) (o .2) (o .3) ≡ isolating s
-    → isolatingOf (p .0) (p .1) (p .2) (p .3) ≡ isolating s → o ≡ p
+-- monitor: isolate, with the owners, jumpers, writers and readers; add_target, with the sets
+pub isolate-once : (s : State) (o p : Isolated × List ℕ × List ℕ × List ℕ × List ℕ) → isolatingOf (o .0) (o .1) (o .2) (o .3) (o .4) ≡ isolating s
+    → isolatingOf (p .0) (p .1) (p .2) (p .3) (p .4) ≡ isolating s → o ≡ p
 isolate-once = monitor.isolate-once
 
 pub add-target-once : (s : State) (sets : List ℕ) (o p : ℕ × List ℕ) → addingOf (o .0) (o .1) ≡ adding s sets → addingOf (p .0) (p .1) ≡ adding s sets → o ≡ p
 add-target-once = monitor.add-target-once
 
--- machine: Processor::step, Processor::run, with the four memories
-pub step-once : (self : Processor) (words owners jumpers writers : List ℕ) (o p : Left Stepped)
-    → steppedOf (o .result) (o .words) (o .owners) (o .jumpers) (o .writers) ≡ step (stateOf self words owners jumpers writers)
-    → steppedOf (p .result) (p .words) (p .owners) (p .jumpers) (p .writers) ≡ step (stateOf self words owners jumpers writers) → o ≡ p
+-- machine: Processor::step, Processor::run, with the five memories
+pub step-once : (self : Processor) (words owners jumpers writers readers : List ℕ) (o p : Left Stepped)
+    → steppedOf (o .result) (o .words) (o .owners) (o .jumpers) (o .writers) (o .readers) ≡ step (stateOf self words owners jumpers writers readers)
+    → steppedOf (p .result) (p .words) (p .owners) (p .jumpers) (p .writers) (p .readers) ≡ step (stateOf self words owners jumpers writers readers) → o ≡ p
 step-once = machine.step-once
 
-pub run-once : (self : Processor) (words owners jumpers writers : List ℕ) (budget : ℕ) (o p : Left code-run.Ran)
-    → ranOf (o .result) (o .words) (o .owners) (o .jumpers) (o .writers) ≡ run budget (stateOf self words owners jumpers writers)
-    → ranOf (p .result) (p .words) (p .owners) (p .jumpers) (p .writers) ≡ run budget (stateOf self words owners jumpers writers) → o ≡ p
+pub run-once : (self : Processor) (words owners jumpers writers readers : List ℕ) (budget : ℕ) (o p : Left code-run.Ran)
+    → ranOf (o .result) (o .words) (o .owners) (o .jumpers) (o .writers) (o .readers) ≡ run budget (stateOf self words owners jumpers writers readers)
+    → ranOf (p .result) (p .words) (p .owners) (p .jumpers) (p .writers) (p .readers) ≡ run budget (stateOf self words owners jumpers writers readers) → o ≡ p
 run-once = machine.run-once
 
 -- reader: number; read, which is lent the bytes and changes nothing
@@ -307,10 +311,10 @@ number-once = reader.number-once
 pub image-read-once : (lent : ℕ) (bytes : List ℕ) (r q : Image) → r ≡ reader.imageOf lent bytes → q ≡ reader.imageOf lent bytes → r ≡ q
 image-read-once = reader.read-once
 
--- loader: load, with the four memories
-pub load-once : (bytes words owners jumpers writers : List ℕ) (o p : loader.LoadOutcome)
-    → loadedOf (o .result) (o .words) (o .owners) (o .jumpers) (o .writers) ≡ load bytes (lent words owners jumpers writers)
-    → loadedOf (p .result) (p .words) (p .owners) (p .jumpers) (p .writers) ≡ load bytes (lent words owners jumpers writers) → o ≡ p
+-- loader: load, with the five memories
+pub load-once : (m : Bool) (bytes words owners jumpers writers readers : List ℕ) (o p : loader.LoadOutcome)
+    → loadedOf (o .result) (o .words) (o .owners) (o .jumpers) (o .writers) (o .readers) ≡ load m bytes (lent words owners jumpers writers readers)
+    → loadedOf (p .result) (p .words) (p .owners) (p .jumpers) (p .writers) (p .readers) ≡ load m bytes (lent words owners jumpers writers readers) → o ≡ p
 load-once = loader.load-once
 
 -- writer: write, with the buffer
@@ -318,22 +322,22 @@ pub write-once : (words regs : List ℕ) (entry : ℕ) (out : List ℕ) (o p : w
     → writtenOf (o .result) (o .out) ≡ write words regs entry out → writtenOf (p .result) (p .out) ≡ write words regs entry out → o ≡ p
 write-once = writer.write-once
 
--- host: kl_load, kl_step, kl_run, with the record and the four memories, and for kl_run the count
-pub kl-load-once : (bytes words owners jumpers writers : List ℕ) (o p : host.Outcome)
-    → loadedBy (o .session .cpu) (o .answer) (o .session .words) (o .session .owners) (o .session .jumpers) (o .session .writers) ≡ load bytes (lent words owners jumpers writers)
-    → loadedBy (p .session .cpu) (p .answer) (p .session .words) (p .session .owners) (p .session .jumpers) (p .session .writers) ≡ load bytes (lent words owners jumpers writers)
+-- host: kl_load, kl_step, kl_run, with the record and the five memories, and for kl_run the count
+pub kl-load-once : (m : Bool) (bytes words owners jumpers writers readers : List ℕ) (o p : host.Outcome)
+    → loadedBy (o .session .cpu) (o .answer) (o .session .words) (o .session .owners) (o .session .jumpers) (o .session .writers) (o .session .readers) ≡ load m bytes (lent words owners jumpers writers readers)
+    → loadedBy (p .session .cpu) (p .answer) (p .session .words) (p .session .owners) (p .session .jumpers) (p .session .writers) (p .session .readers) ≡ load m bytes (lent words owners jumpers writers readers)
     → o ≡ p
 kl-load-once = host.load-once
 
-pub kl-step-once : (cpu : Processor) (words owners jumpers writers : List ℕ) (o p : host.Outcome)
-    → steppedBy (o .session .cpu) (o .answer) (o .session .words) (o .session .owners) (o .session .jumpers) (o .session .writers) ≡ step (stateOf cpu words owners jumpers writers)
-    → steppedBy (p .session .cpu) (p .answer) (p .session .words) (p .session .owners) (p .session .jumpers) (p .session .writers) ≡ step (stateOf cpu words owners jumpers writers)
+pub kl-step-once : (cpu : Processor) (words owners jumpers writers readers : List ℕ) (o p : host.Outcome)
+    → steppedBy (o .session .cpu) (o .answer) (o .session .words) (o .session .owners) (o .session .jumpers) (o .session .writers) (o .session .readers) ≡ step (stateOf cpu words owners jumpers writers readers)
+    → steppedBy (p .session .cpu) (p .answer) (p .session .words) (p .session .owners) (p .session .jumpers) (p .session .writers) (p .session .readers) ≡ step (stateOf cpu words owners jumpers writers readers)
     → o ≡ p
 kl-step-once = host.step-once
 
-pub kl-run-once : (cpu : Processor) (words owners jumpers writers : List ℕ) (budget : ℕ) (o p : host.RunOutcome)
-    → ranBy (o .session .cpu) (o .answer) (o .count) (o .session .words) (o .session .owners) (o .session .jumpers) (o .session .writers) ≡ run budget (stateOf cpu words owners jumpers writers)
-    → ranBy (p .session .cpu) (p .answer) (p .count) (p .session .words) (p .session .owners) (p .session .jumpers) (p .session .writers) ≡ run budget (stateOf cpu words owners jumpers writers)
+pub kl-run-once : (cpu : Processor) (words owners jumpers writers readers : List ℕ) (budget : ℕ) (o p : host.RunOutcome)
+    → ranBy (o .session .cpu) (o .answer) (o .count) (o .session .words) (o .session .owners) (o .session .jumpers) (o .session .writers) (o .session .readers) ≡ run budget (stateOf cpu words owners jumpers writers readers)
+    → ranBy (p .session .cpu) (p .answer) (p .count) (p .session .words) (p .session .owners) (p .session .jumpers) (p .session .writers) (p .session .readers) ≡ run budget (stateOf cpu words owners jumpers writers readers)
     → o ≡ p
 kl-run-once = host.run-once
 

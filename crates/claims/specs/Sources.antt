@@ -1,5 +1,6 @@
 -- Request 2026-02: what is promised of sources, each statement in full and proved by citation.
 use mathlib.Core.Path.{_≡_, sym, ap, _∙_}
+use mathlib.Core.Bool.{Bool}
 use mathlib.Core.List.{List, []}
 use mathlib.Core.Logic.{_↔_}
 use mathlib.Core.Option.{Option, some}
@@ -127,9 +128,9 @@ module _ (source out : List ℕ) where
   pub rest-kept : drop (assemble source out .length) (assemble source out .out) ≡ drop (assemble source out .length) out
   rest-kept = accepted.rest-kept source out
 
-  -- the loader accepts the image, with N the number of word lines, registers 0 and pc 0
-  pub image-loads : assemble source out .answer ≡ 0 → (old : State) → accepted.Room source old → accepted.Loads source out old
-  image-loads = accepted.assembled-loads source out
+  -- the loader accepts the image in either mode, with N the number of word lines, registers 0 and pc 0
+  pub image-loads : (m : Bool) → assemble source out .answer ≡ 0 → (old : State) → accepted.Room m source old → accepted.Loads m source out old
+  image-loads m = accepted.assembled-loads m source out
 
 -- the image is a function of the text alone: two buffers with room get the same answer, line, length and bytes
 pub text-alone : (source old older : List ℕ) → (assemble source old .answer ≡ 31 → ⊥) → (assemble source older .answer ≡ 31 → ⊥) → accepted.Alike (assemble source old) (assemble source older)
@@ -165,8 +166,8 @@ module _ (κs : _) (a : _) (r : Assembled) (s : _) (h : assembler.Post κs a r s
   code-assembles = h
 
   -- so the loader accepts the image that it left
-  pub code-image-loads : r .answer ≡ 0 → (old : State) → accepted.Room (a .0 .now) old → accepted.Loads (a .0 .now) (a .1 .0 .now) old
-  code-image-loads e = accepted.assembled-loads (a .0 .now) (a .1 .0 .now) (sym (ap (λ (x : sources.Assembled). x .answer) h) ∙ e)
+  pub code-image-loads : (m : Bool) → r .answer ≡ 0 → (old : State) → accepted.Room m (a .0 .now) old → accepted.Loads m (a .0 .now) (a .1 .0 .now) old
+  code-image-loads m e = accepted.assembled-loads m (a .0 .now) (a .1 .0 .now) (sym (ap (λ (x : sources.Assembled). x .answer) h) ∙ e)
 
 -- `disassemble` of crate disassembler
 module _ (κs : _) (a : _) (r : Listed) (s : _) (h : disassembler.Post κs a r s) where

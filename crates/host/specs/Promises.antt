@@ -1,5 +1,6 @@
 -- What is seen of the host calls' outcomes, and that two outcomes of any of their promises are equal.
 use mathlib.Core.Path.{_≡_, refl}
+use mathlib.Core.Bool.{Bool}
 use mathlib.Core.List.{List, [], _∷_}
 use Prim.Native.Nat.{ℕ}
 use Rattle.common.specs.Promise.{View, once, itself}
@@ -18,14 +19,14 @@ use Rattle.report.specs.Promises as report
 
 -- ---- what the contracts see
 
-abbrev pub loadedBy : Processor → ℕ → List ℕ → List ℕ → List ℕ → List ℕ → images.Loaded
-loadedBy cpu answer words owners jumpers writers = record { answer = answer; state = stateOf cpu words owners jumpers writers }
+abbrev pub loadedBy : Processor → ℕ → List ℕ → List ℕ → List ℕ → List ℕ → List ℕ → images.Loaded
+loadedBy cpu answer words owners jumpers writers readers = record { answer = answer; state = stateOf cpu words owners jumpers writers readers }
 
-abbrev pub steppedBy : Processor → ℕ → List ℕ → List ℕ → List ℕ → List ℕ → step.Stepped
-steppedBy cpu answer words owners jumpers writers = record { answer = answer; state = stateOf cpu words owners jumpers writers }
+abbrev pub steppedBy : Processor → ℕ → List ℕ → List ℕ → List ℕ → List ℕ → List ℕ → step.Stepped
+steppedBy cpu answer words owners jumpers writers readers = record { answer = answer; state = stateOf cpu words owners jumpers writers readers }
 
-abbrev pub ranBy : Processor → ℕ → ℕ → List ℕ → List ℕ → List ℕ → List ℕ → run.Ran
-ranBy cpu answer count words owners jumpers writers = record { answer = answer; state = stateOf cpu words owners jumpers writers; count = count }
+abbrev pub ranBy : Processor → ℕ → ℕ → List ℕ → List ℕ → List ℕ → List ℕ → List ℕ → run.Ran
+ranBy cpu answer count words owners jumpers writers readers = record { answer = answer; state = stateOf cpu words owners jumpers writers readers; count = count }
 
 -- all that a decoding hands back or may change
 pub record DecodeOutcome : Type 0 where
@@ -57,9 +58,10 @@ pub record Session : Type 0 where
   pub owners : List ℕ
   pub jumpers : List ℕ
   pub writers : List ℕ
+  pub readers : List ℕ
 
 abbrev sessionOf : State → Session
-sessionOf s = record { cpu = processorOf (s .cpu); words = s .words; owners = s .owners; jumpers = s .jumpers; writers = s .writers }
+sessionOf s = record { cpu = processorOf (s .cpu); words = s .words; owners = s .owners; jumpers = s .jumpers; writers = s .writers; readers = s .readers }
 
 -- all that a load or a step hands back or may change
 pub record Outcome : Type 0 where
@@ -75,7 +77,7 @@ pub record RunOutcome : Type 0 where
 abbrev load-view : View Outcome images.Loaded
 load-view =
     record {
-      seen = λ o. loadedBy (o .session .cpu) (o .answer) (o .session .words) (o .session .owners) (o .session .jumpers) (o .session .writers);
+      seen = λ o. loadedBy (o .session .cpu) (o .answer) (o .session .words) (o .session .owners) (o .session .jumpers) (o .session .writers) (o .session .readers);
       back = λ m. record { answer = m .answer; session = sessionOf (m .state) };
       whole = λ o. refl;
     }
@@ -83,7 +85,7 @@ load-view =
 abbrev step-view : View Outcome step.Stepped
 step-view =
     record {
-      seen = λ o. steppedBy (o .session .cpu) (o .answer) (o .session .words) (o .session .owners) (o .session .jumpers) (o .session .writers);
+      seen = λ o. steppedBy (o .session .cpu) (o .answer) (o .session .words) (o .session .owners) (o .session .jumpers) (o .session .writers) (o .session .readers);
       back = λ m. record { answer = m .answer; session = sessionOf (m .state) };
       whole = λ o. refl;
     }
@@ -91,28 +93,28 @@ step-view =
 abbrev run-view : View RunOutcome run.Ran
 run-view =
     record {
-      seen = λ o. ranBy (o .session .cpu) (o .answer) (o .count) (o .session .words) (o .session .owners) (o .session .jumpers) (o .session .writers);
+      seen = λ o. ranBy (o .session .cpu) (o .answer) (o .count) (o .session .words) (o .session .owners) (o .session .jumpers) (o .session .writers) (o .session .readers);
       back = λ m. record { answer = m .answer; session = sessionOf (m .state); count = m .count };
       whole = λ o. refl;
     }
 
-pub load-once : (bytes words owners jumpers writers : List ℕ) (o p : Outcome)
-    → load-view .seen o ≡ images.load bytes (lent words owners jumpers writers)
-    → load-view .seen p ≡ images.load bytes (lent words owners jumpers writers)
+pub load-once : (strict : Bool) (bytes words owners jumpers writers readers : List ℕ) (o p : Outcome)
+    → load-view .seen o ≡ images.load strict bytes (lent words owners jumpers writers readers)
+    → load-view .seen p ≡ images.load strict bytes (lent words owners jumpers writers readers)
     → o ≡ p
-load-once bytes words owners jumpers writers o p = once load-view (images.load bytes (lent words owners jumpers writers)) o p
+load-once strict bytes words owners jumpers writers readers o p = once load-view (images.load strict bytes (lent words owners jumpers writers readers)) o p
 
-pub step-once : (cpu : Processor) (words owners jumpers writers : List ℕ) (o p : Outcome)
-    → step-view .seen o ≡ step.step (stateOf cpu words owners jumpers writers)
-    → step-view .seen p ≡ step.step (stateOf cpu words owners jumpers writers)
+pub step-once : (cpu : Processor) (words owners jumpers writers readers : List ℕ) (o p : Outcome)
+    → step-view .seen o ≡ step.step (stateOf cpu words owners jumpers writers readers)
+    → step-view .seen p ≡ step.step (stateOf cpu words owners jumpers writers readers)
     → o ≡ p
-step-once cpu words owners jumpers writers o p = once step-view (step.step (stateOf cpu words owners jumpers writers)) o p
+step-once cpu words owners jumpers writers readers o p = once step-view (step.step (stateOf cpu words owners jumpers writers readers)) o p
 
-pub run-once : (cpu : Processor) (words owners jumpers writers : List ℕ) (budget : ℕ) (o p : RunOutcome)
-    → run-view .seen o ≡ run.run budget (stateOf cpu words owners jumpers writers)
-    → run-view .seen p ≡ run.run budget (stateOf cpu words owners jumpers writers)
+pub run-once : (cpu : Processor) (words owners jumpers writers readers : List ℕ) (budget : ℕ) (o p : RunOutcome)
+    → run-view .seen o ≡ run.run budget (stateOf cpu words owners jumpers writers readers)
+    → run-view .seen p ≡ run.run budget (stateOf cpu words owners jumpers writers readers)
     → o ≡ p
-run-once cpu words owners jumpers writers budget o p = once run-view (run.run budget (stateOf cpu words owners jumpers writers)) o p
+run-once cpu words owners jumpers writers readers budget o p = once run-view (run.run budget (stateOf cpu words owners jumpers writers readers)) o p
 
 -- ---- the others
 
@@ -173,14 +175,14 @@ assemble-once text out o p = once assemble-view (sources.assemble text out) o p
 
 -- ---- the counts, which change nothing: each promises what report's does, of the record lent
 
-pub owned-once : (cpu : Processor) (owners : List ℕ) (number r q : ℕ) → r ≡ ownedCount (stateOf cpu [] owners [] []) number → q ≡ ownedCount (stateOf cpu [] owners [] []) number → r ≡ q
+pub owned-once : (cpu : Processor) (owners : List ℕ) (number r q : ℕ) → r ≡ ownedCount (stateOf cpu [] owners [] [] []) number → q ≡ ownedCount (stateOf cpu [] owners [] [] []) number → r ≡ q
 owned-once = report.owned-once
 
-pub jumps-once : (cpu : Processor) (jumpers : List ℕ) (number r q : ℕ) → r ≡ jumpCount (stateOf cpu [] [] jumpers []) number → q ≡ jumpCount (stateOf cpu [] [] jumpers []) number → r ≡ q
+pub jumps-once : (cpu : Processor) (jumpers : List ℕ) (number r q : ℕ) → r ≡ jumpCount (stateOf cpu [] [] jumpers [] []) number → q ≡ jumpCount (stateOf cpu [] [] jumpers [] []) number → r ≡ q
 jumps-once = report.jumps-once
 
-pub stores-once : (cpu : Processor) (writers : List ℕ) (number r q : ℕ) → r ≡ storeCount (stateOf cpu [] [] [] writers) number → q ≡ storeCount (stateOf cpu [] [] [] writers) number → r ≡ q
+pub stores-once : (cpu : Processor) (writers : List ℕ) (number r q : ℕ) → r ≡ storeCount (stateOf cpu [] [] [] writers []) number → q ≡ storeCount (stateOf cpu [] [] [] writers []) number → r ≡ q
 stores-once = report.stores-once
 
-pub widest-once : (cpu : Processor) (writers : List ℕ) (r q : ℕ) → r ≡ widest (stateOf cpu [] [] [] writers) → q ≡ widest (stateOf cpu [] [] [] writers) → r ≡ q
+pub widest-once : (cpu : Processor) (writers : List ℕ) (r q : ℕ) → r ≡ widest (stateOf cpu [] [] [] writers []) → q ≡ widest (stateOf cpu [] [] [] writers []) → r ≡ q
 widest-once = report.widest-once

@@ -13,19 +13,21 @@ ghost use Rattle.loader.specs.Promises.{lent};
 ghost use Rattle.host.specs.Promises.{loadedBy, steppedBy, ranBy, decodedBy, laidOut, encodedBy, writtenBy, assembledBy};
 use machine::Processor;
 
-// Loads an image over whatever the record held; a refused load leaves the blank record.
+// Loads an image over whatever the record held, for a run in a mode; a refused load leaves the blank record of that mode.
 #[no_mangle]
 pub extern "C" fn kl_load(
     cpu: &mut Processor,
+    strict: bool,
     bytes: &[u8],
     words: &mut [u32],
     owners: &mut [u32],
     jumpers: &mut [u64],
     writers: &mut [u64],
+    readers: &mut [u64],
 ) -> u32
-    ensures { λ r. ⌜ loadedBy (now (cpu .exit)) r (now (words .exit)) (now (owners .exit)) (now (jumpers .exit)) (now (writers .exit)) ≡ load (now (bytes .entry)) (lent (now (words .entry)) (now (owners .entry)) (now (jumpers .entry)) (now (writers .entry))) ⌝ }
+    ensures { λ r. ⌜ loadedBy (now (cpu .exit)) r (now (words .exit)) (now (owners .exit)) (now (jumpers .exit)) (now (writers .exit)) (now (readers .exit)) ≡ load strict (now (bytes .entry)) (lent (now (words .entry)) (now (owners .entry)) (now (jumpers .entry)) (now (writers .entry)) (now (readers .entry))) ⌝ }
 {
-    let l = loader::load(bytes, words, owners, jumpers, writers);
+    let l = loader::load(strict, bytes, words, owners, jumpers, writers, readers);
     *cpu = l.cpu;
     l.answer
 }
@@ -38,10 +40,11 @@ pub extern "C" fn kl_step(
     owners: &mut [u32],
     jumpers: &mut [u64],
     writers: &mut [u64],
+    readers: &mut [u64],
 ) -> u32
-    ensures { λ r. ⌜ steppedBy (now (cpu .exit)) r (now (words .exit)) (now (owners .exit)) (now (jumpers .exit)) (now (writers .exit)) ≡ step (stateOf (now (cpu .entry)) (now (words .entry)) (now (owners .entry)) (now (jumpers .entry)) (now (writers .entry))) ⌝ }
+    ensures { λ r. ⌜ steppedBy (now (cpu .exit)) r (now (words .exit)) (now (owners .exit)) (now (jumpers .exit)) (now (writers .exit)) (now (readers .exit)) ≡ step (stateOf (now (cpu .entry)) (now (words .entry)) (now (owners .entry)) (now (jumpers .entry)) (now (writers .entry)) (now (readers .entry))) ⌝ }
 {
-    let s = cpu.step(words, owners, jumpers, writers);
+    let s = cpu.step(words, owners, jumpers, writers, readers);
     *cpu = s.cpu;
     s.answer
 }
@@ -54,12 +57,13 @@ pub extern "C" fn kl_run(
     owners: &mut [u32],
     jumpers: &mut [u64],
     writers: &mut [u64],
+    readers: &mut [u64],
     budget: u32,
     count: &mut u32,
 ) -> u32
-    ensures { λ r. ⌜ ranBy (now (cpu .exit)) r (now (count .exit)) (now (words .exit)) (now (owners .exit)) (now (jumpers .exit)) (now (writers .exit)) ≡ run budget (stateOf (now (cpu .entry)) (now (words .entry)) (now (owners .entry)) (now (jumpers .entry)) (now (writers .entry))) ⌝ }
+    ensures { λ r. ⌜ ranBy (now (cpu .exit)) r (now (count .exit)) (now (words .exit)) (now (owners .exit)) (now (jumpers .exit)) (now (writers .exit)) (now (readers .exit)) ≡ run budget (stateOf (now (cpu .entry)) (now (words .entry)) (now (owners .entry)) (now (jumpers .entry)) (now (writers .entry)) (now (readers .entry))) ⌝ }
 {
-    let r = cpu.run(words, owners, jumpers, writers, budget);
+    let r = cpu.run(words, owners, jumpers, writers, readers, budget);
     *cpu = r.cpu;
     *count = r.count;
     r.answer
@@ -130,7 +134,7 @@ pub extern "C" fn kl_disassemble(words: &[u32], out: &mut [u8], length: &mut usi
 // The addresses that a compartment owns, services counted.
 #[no_mangle]
 pub extern "C" fn kl_owned(cpu: &Processor, owners: &[u32], number: u32) -> u32
-    ensures { λ r. ⌜ r ≡ ownedCount (stateOf (now (cpu .entry)) [] (now (owners .entry)) [] []) number ⌝ }
+    ensures { λ r. ⌜ r ≡ ownedCount (stateOf (now (cpu .entry)) [] (now (owners .entry)) [] [] []) number ⌝ }
 {
     report::owned(*cpu, owners, number)
 }
@@ -138,7 +142,7 @@ pub extern "C" fn kl_owned(cpu: &Processor, owners: &[u32], number: u32) -> u32
 // The addresses that a compartment may jump to, services counted.
 #[no_mangle]
 pub extern "C" fn kl_jumps(cpu: &Processor, jumpers: &[u64], number: u32) -> u32
-    ensures { λ r. ⌜ r ≡ jumpCount (stateOf (now (cpu .entry)) [] [] (now (jumpers .entry)) []) number ⌝ }
+    ensures { λ r. ⌜ r ≡ jumpCount (stateOf (now (cpu .entry)) [] [] (now (jumpers .entry)) [] []) number ⌝ }
 {
     report::jumps(*cpu, jumpers, number)
 }
@@ -146,7 +150,7 @@ pub extern "C" fn kl_jumps(cpu: &Processor, jumpers: &[u64], number: u32) -> u32
 // The addresses that a compartment may store to. No service is among them.
 #[no_mangle]
 pub extern "C" fn kl_stores(cpu: &Processor, writers: &[u64], number: u32) -> u32
-    ensures { λ r. ⌜ r ≡ storeCount (stateOf (now (cpu .entry)) [] [] [] (now (writers .entry))) number ⌝ }
+    ensures { λ r. ⌜ r ≡ storeCount (stateOf (now (cpu .entry)) [] [] [] (now (writers .entry)) []) number ⌝ }
 {
     report::stores(*cpu, writers, number)
 }
@@ -154,7 +158,7 @@ pub extern "C" fn kl_stores(cpu: &Processor, writers: &[u64], number: u32) -> u3
 // The most compartments that may write to any one word below N.
 #[no_mangle]
 pub extern "C" fn kl_widest(cpu: &Processor, writers: &[u64]) -> u32
-    ensures { λ r. ⌜ r ≡ widest (stateOf (now (cpu .entry)) [] [] [] (now (writers .entry))) ⌝ }
+    ensures { λ r. ⌜ r ≡ widest (stateOf (now (cpu .entry)) [] [] [] (now (writers .entry)) []) ⌝ }
 {
     report::widest(*cpu, writers)
 }

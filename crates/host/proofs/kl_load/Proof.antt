@@ -20,7 +20,7 @@ pub kl-load-spec : {M : Type 1} → statement M
 unfolding code.routine tablesOf
 kl-load-spec 𝓤 H 𝓜 𝓖 𝓡 =
     entered 𝓤 H (tripleOf 𝓤 H (𝓖 .A) f.signature (f.spec 𝓤 H (𝓖 .A) (𝓜 .mem) (𝓡 .run))) (tables 𝓤 H 𝓜 𝓡 code.env .C) (tables 𝓤 H 𝓜 𝓡 code.env .Λ) key.name code.function (code.unfolded 𝓤 H 𝓜 𝓡)
-    (meets (λ bytes words owners jumpers writers l words′ owners′ jumpers′ writers′. loadedOf l words′ owners′ jumpers′ writers′ ≡ load bytes (lent words owners jumpers writers)) 𝓤 H (𝓖 .A)
-    (λ κs a. f.clauses 𝓤 H (𝓖 .A) (𝓜 .mem) (𝓡 .run) κs a .ensures tt) (λ κs a l words owners jumpers writers h. factI 𝓤 _ (emp 𝓤) h)
+    (meets (λ strict bytes words owners jumpers writers readers l words′ owners′ jumpers′ writers′ readers′. loadedOf l words′ owners′ jumpers′ writers′ readers′ ≡ load strict bytes (lent words owners jumpers writers readers)) 𝓤 H (𝓖 .A)
+    (λ κs a. f.clauses 𝓤 H (𝓖 .A) (𝓜 .mem) (𝓡 .run) κs a .ensures tt) (λ κs a l words owners jumpers writers readers h. factI 𝓤 _ (emp 𝓤) h)
     (givenOf 𝓤 H 𝓜 𝓖) name (tablesOf 𝓤 H 𝓜 (tables 𝓤 H 𝓜 𝓡 code.env))
     (cited 𝓤 H (tripleOf 𝓤 H (𝓖 .A) beneath.signature (beneath.spec 𝓤 H (𝓖 .A) (𝓜 .mem) (𝓡 .run))) 𝓜 𝓡 code.env name routine code.calls-loader·load (met 𝓤 H 𝓜 𝓖 𝓡)))
