@@ -56,13 +56,22 @@ fn show_compartments(cpu: Processor, owners: &[u32], jumpers: &[u64], writers: &
     }
 }
 
-// Loads an image into memories of 2,048 places, runs it, and prints `refused R`, or what the run left.
-pub fn run_image(bytes: &[u8]) {
+// Loads an image into memories of 2,048 places, for a run in a mode, runs it, and prints `refused R`, or what the run left.
+pub fn run_image(strict: bool, bytes: &[u8]) {
     let mut words = [0u32; 2048];
     let mut owners = [0u32; 2048];
     let mut jumpers = [0u64; 2048];
     let mut writers = [0u64; 2048];
-    let l = loader::load(bytes, &mut words, &mut owners, &mut jumpers, &mut writers);
+    let mut readers = [0u64; 2048];
+    let l = loader::load(
+        strict,
+        bytes,
+        &mut words,
+        &mut owners,
+        &mut jumpers,
+        &mut writers,
+        &mut readers,
+    );
     let answer = l.answer;
     if answer != answers::DONE {
         field(b"refused ", answer);
@@ -70,15 +79,22 @@ pub fn run_image(bytes: &[u8]) {
         return;
     }
     let cpu = l.cpu;
-    let r = cpu.run(&mut words, &mut owners, &mut jumpers, &mut writers, BUDGET);
+    let r = cpu.run(
+        &mut words,
+        &mut owners,
+        &mut jumpers,
+        &mut writers,
+        &mut readers,
+        BUDGET,
+    );
     show_run(r, report::widest(r.cpu, &writers));
     show_compartments(r.cpu, &owners, &jumpers, &writers);
 }
 
-// Runs the image on standard input: what was read until its end, or until a read failed. No image is longer than 8,272 bytes, and
+// Runs the image on standard input in a mode: what was read until its end, or until a read failed. No image is longer than 8,272 bytes, and
 // the loader answers of a longer input what it answers of its first 8,273 bytes (crates/images/specs/Prefix.antt).
-pub fn run_input() {
+pub fn run_input(strict: bool) {
     let mut bytes = [0u8; 8273];
     let n = io::read_full(STDIN_FILENO, &mut bytes);
-    run_image(&bytes[..n]);
+    run_image(strict, &bytes[..n]);
 }

@@ -47,7 +47,15 @@ fn load(bytes: &[u8]) {
     let mut owners = [0u32; 2048];
     let mut jumpers = [0u64; 2048];
     let mut writers = [0u64; 2048];
-    let l = loader::load(bytes, &mut words, &mut owners, &mut jumpers, &mut writers);
+    let l = loader::load(
+        false,
+        bytes,
+        &mut words,
+        &mut owners,
+        &mut jumpers,
+        &mut writers,
+        &mut [0u64; 1],
+    );
     let answer = l.answer;
     if answer != answers::DONE {
         say(b"refused ");

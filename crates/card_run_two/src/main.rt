@@ -1,4 +1,4 @@
 // The run program, whose stored input here is image two.
 fn main() {
-    card::run_input();
+    card::run_input(false);
 }

@@ -4,16 +4,17 @@ use crate::showing;
 use crate::showing::sum_of_sets;
 use crate::showing::sum_of_words;
 
-// Whether the sums of four memories of four places are those of their marks.
-fn as_marked(values: [u64; 12]) -> bool {
+// Whether the sums of five memories of four places are those of their marks.
+fn as_marked(values: [u64; 13]) -> bool {
     values[8] == sum_of_words(&[loading::WORD_MARK; 4])
         && values[9] == sum_of_words(&[loading::OWNER_MARK; 4])
         && values[10] == sum_of_sets(&[loading::JUMPERS_MARK; 4])
         && values[11] == sum_of_sets(&[loading::WRITERS_MARK; 4])
+        && values[12] == sum_of_sets(&[loading::READERS_MARK; 4])
 }
 
 // The loader's answer, or 999 where a refusal changed a memory's sum.
-fn answer_of(values: [u64; 12]) -> u64 {
+fn answer_of(values: [u64; 13]) -> u64 {
     if values[0] == 0 {
         return 0;
     }
@@ -24,8 +25,8 @@ fn answer_of(values: [u64; 12]) -> u64 {
 }
 
 fn show_answer(bytes: &[u8]) {
-    let answer = answer_of(loading::loaded_over_marks(bytes, loading::equal(4)));
-    showing::show(b" #", [answer; 12]);
+    let answer = answer_of(loading::loaded_over_marks(false, bytes, loading::equal(4)));
+    showing::show(b" #", [answer; 13]);
 }
 
 pub(crate) fn show_cuts(bytes: &[u8]) {

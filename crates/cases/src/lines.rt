@@ -11,10 +11,10 @@ use crate::writing;
 
 // image NAME TO THE END OF THE LINE: as the run program runs it.
 fn show_image(text: &[u8], at: usize, bytes: &[u8]) {
-    showing::show(b"-- ", [0; 12]);
+    showing::show(b"-- ", [0; 13]);
     showing::name(text, at, 10);
     showing::byte(10);
-    card::run_image(bytes);
+    card::run_image(false, bytes);
 }
 
 // Shows a name; returns the numbers after it.
@@ -33,9 +33,12 @@ fn show_case(kind: u8, text: &[u8], at: usize, bytes: &[u8]) {
         }
         b'i' => show_image(text, at, bytes),
         // load NAME WORDS OWNERS JUMPERS WRITERS
-        b'l' => loading::show_loaded(bytes, named(text, at)),
-        // run NAME NEXT BUDGET
-        b'r' => running::show_ran(bytes, named(text, at)),
+        b'l' => loading::show_loaded(false, bytes, named(text, at)),
+        // over NAME WORDS OWNERS JUMPERS WRITERS READERS: a load in strict mode
+        b'o' => loading::show_loaded(true, bytes, named(text, at)),
+        // run NAME NEXT BUDGET, and strict NAME NEXT BUDGET
+        b'r' => running::show_ran(false, bytes, named(text, at)),
+        b's' => running::show_ran(true, bytes, named(text, at)),
         // trip NAME
         b't' => {
             named(text, at);

@@ -68,12 +68,13 @@ fn read_number(text: &[u8], at: usize) -> Number {
     }
 }
 
-// Four numbers of a line. One that has fewer leaves the rest without meaning.
+// Five numbers of a line. One that has fewer leaves the rest without meaning.
 pub(crate) struct Numbers {
     pub first: usize,
     pub second: usize,
     pub third: usize,
     pub fourth: usize,
+    pub fifth: usize,
 }
 
 pub(crate) fn read_numbers(text: &[u8], at: usize) -> Numbers {
@@ -81,10 +82,12 @@ pub(crate) fn read_numbers(text: &[u8], at: usize) -> Numbers {
     let two = read_number(text, one.next);
     let three = read_number(text, two.next);
     let four = read_number(text, three.next);
+    let five = read_number(text, four.next);
     Numbers {
         first: one.value,
         second: two.value,
         third: three.value,
         fourth: four.value,
+        fifth: five.value,
     }
 }

@@ -21,12 +21,12 @@ pub(crate) fn name(text: &[u8], at: usize, last: u8) -> usize {
 }
 
 // A byte of a form: for `#` the value at k. Returns the place of the next value.
-fn piece(b: u8, values: [u64; 12], k: usize) -> usize {
+fn piece(b: u8, values: [u64; 13], k: usize) -> usize {
     if b != 35 {
         byte(b);
         return k;
     }
-    if k < 12 {
+    if k < 13 {
         io::print_decimal(STDOUT_FILENO, values[k]);
         return k + 1;
     }
@@ -34,7 +34,7 @@ fn piece(b: u8, values: [u64; 12], k: usize) -> usize {
 }
 
 // A form, with the next value in the place of each `#`.
-pub(crate) fn show(form: &[u8], values: [u64; 12]) {
+pub(crate) fn show(form: &[u8], values: [u64; 13]) {
     let mut k = 0;
     let mut i = 0;
     while i < form.len() {

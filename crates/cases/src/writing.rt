@@ -33,7 +33,7 @@ fn untouched(bytes: &[u8]) -> bool {
     true
 }
 
-fn row(w: Written, third: u64, fourth: u64) -> [u64; 12] {
+fn row(w: Written, third: u64, fourth: u64) -> [u64; 13] {
     [
         w.answer as u64,
         w.length as u64,
@@ -47,11 +47,12 @@ fn row(w: Written, third: u64, fourth: u64) -> [u64; 12] {
         0,
         0,
         0,
+        0,
     ]
 }
 
 // Writes words, and compares: the same bytes as these, and the room beyond them as it was.
-fn rewritten(bytes: &[u8], words: &[u32], regs: &[u32; 16], entry: u32) -> [u64; 12] {
+fn rewritten(bytes: &[u8], words: &[u32], regs: &[u32; 16], entry: u32) -> [u64; 13] {
     let mut out = [170u8; 8280];
     let w = writer::write(words, regs, entry, &mut out);
     let length = reading::within(w.length, 8280);
@@ -68,7 +69,16 @@ pub(crate) fn show_rewritten(bytes: &[u8]) {
     let mut owners = [0u32; 2048];
     let mut jumpers = [0u64; 2048];
     let mut writers = [0u64; 2048];
-    let r = loader::load(bytes, &mut words, &mut owners, &mut jumpers, &mut writers);
+    let mut readers = [0u64; 1];
+    let r = loader::load(
+        false,
+        bytes,
+        &mut words,
+        &mut owners,
+        &mut jumpers,
+        &mut writers,
+        &mut readers,
+    );
     let cpu = r.cpu;
     let regs = cpu.regs;
     let n = reading::within(cpu.n as usize, 2048);
@@ -95,7 +105,7 @@ fn show_back(words: &[u32], regs: &[u32; 16], entry: u32, out: &mut [u8]) {
         row(w, showing::sum_of_bytes(out), 0),
     );
     let length = reading::within(w.length, out.len());
-    loading::show_loaded(&out[..length], loading::equal(words.len()));
+    loading::show_loaded(false, &out[..length], loading::equal(words.len()));
 }
 
 // The registers are the bytes' first sixteen words; how many words, the entry and the room are handed in.

@@ -60,7 +60,15 @@ fn lists(image: &[u8]) -> bool {
     let mut owners = [0u32; 2048];
     let mut jumpers = [0u64; 2048];
     let mut writers = [0u64; 2048];
-    let l = loader::load(image, &mut words, &mut owners, &mut jumpers, &mut writers);
+    let l = loader::load(
+        false,
+        image,
+        &mut words,
+        &mut owners,
+        &mut jumpers,
+        &mut writers,
+        &mut [0u64; 1],
+    );
     let cpu = l.cpu;
     let mut text = [0u8; 32768];
     let n = streams::words_within(cpu.n as usize, &words);
@@ -87,4 +95,5 @@ fn main() {
     sample(b"two", b"two.kl", b"two.img");
     sample(b"makers", b"makers.kl", b"makers.img");
     sample(b"lesson", b"lesson.kl", b"lesson.img");
+    sample(b"calibration", b"calibration.kl", b"calibration.img");
 }

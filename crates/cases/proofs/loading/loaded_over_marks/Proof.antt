@@ -1,7 +1,6 @@
 -- A front of a list has the length asked.
-use borrow.Author.Needs.{needs}
-use lib.ListN.{length-take}
 use native.Mathlib.Omega.{arith}
+use lib.ListN.{length-take}
 use borrow.Author.Needs.{needs}
 use Rattle.cases.proofs.loading.loaded_over_marks.Statement.{statement}
 use Rattle.cases.proofs.loading.loaded_over_marks.Tie as tie
@@ -17,6 +16,9 @@ within-requires-3 c κs = search needs
 
 within-requires-4 : tie.Need-within-requires-4
 within-requires-4 c κs = search needs
+
+within-requires-5 : tie.Need-within-requires-5
+within-requires-5 c κs = search needs
 
 array-borrow-prefix-words : tie.Need-array-borrow-prefix-words
 array-borrow-prefix-words c = search needs
@@ -42,6 +44,12 @@ array-borrow-prefix-writers c = search needs
 slice-aggregate-loaded-4 : tie.Need-slice-aggregate-loaded-4
 slice-aggregate-loaded-4 c = simp length-take (omega arith)
 
+array-borrow-prefix-readers : tie.Need-array-borrow-prefix-readers
+array-borrow-prefix-readers c = search needs
+
+slice-aggregate-loaded-5 : tie.Need-slice-aggregate-loaded-5
+slice-aggregate-loaded-5 c = simp length-take (omega arith)
+
 loaded-requires : tie.Need-loaded-requires
 loaded-requires c κs = search needs
 
@@ -56,6 +64,7 @@ loaded-over-marks-spec =
     within-requires-2
     within-requires-3
     within-requires-4
+    within-requires-5
     array-borrow-prefix-words
     slice-aggregate-loaded
     array-borrow-prefix-owners
@@ -64,5 +73,7 @@ loaded-over-marks-spec =
     slice-aggregate-loaded-3
     array-borrow-prefix-writers
     slice-aggregate-loaded-4
+    array-borrow-prefix-readers
+    slice-aggregate-loaded-5
     loaded-requires
     returns)

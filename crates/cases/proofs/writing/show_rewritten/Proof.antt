@@ -1,7 +1,6 @@
 -- A front of a list has the length asked.
-use borrow.Author.Needs.{needs}
-use lib.ListN.{length-take}
 use native.Mathlib.Omega.{arith}
+use lib.ListN.{length-take}
 use borrow.Author.Needs.{needs}
 use Rattle.cases.proofs.writing.show_rewritten.Statement.{statement}
 use Rattle.cases.proofs.writing.show_rewritten.Tie as tie
@@ -17,6 +16,9 @@ slice-aggregate-load-3 c = search needs
 
 slice-aggregate-load-4 : tie.Need-slice-aggregate-load-4
 slice-aggregate-load-4 c = search needs
+
+slice-aggregate-load-5 : tie.Need-slice-aggregate-load-5
+slice-aggregate-load-5 c = search needs
 
 load-requires : tie.Need-load-requires
 load-requires c κs = search needs
@@ -53,6 +55,7 @@ show-rewritten-spec =
     slice-aggregate-load-2
     slice-aggregate-load-3
     slice-aggregate-load-4
+    slice-aggregate-load-5
     load-requires
     cast-within
     within-requires
