@@ -6,8 +6,8 @@ use Prim.Native.Nat.{ℕ, _+_}
 use lib.Dec.{eqb, ltb}
 use lib.ListN.{take, set}
 use Rattle.common.specs.Answers as answer
-use Rattle.grammar.specs.Runs.{nameAt}
-use Rattle.grammar.specs.Shapes.{label, word}
+use Rattle.grammar.specs.Laws.Runs.{nameAt}
+use Rattle.grammar.specs.Reading.Shapes.{label, word}
 use Rattle.sources.specs.Labels.{Site}
 use Rattle.sources.specs.Meaning.{most, Meaning, says, refused}
 use Rattle.tokens.specs.Streams.{tokenAt}

@@ -10,9 +10,9 @@ use lib.Dec.{eqb, ltb}
 use lib.ListN.{length, set, length-set}
 use native.Mathlib.Omega.{arith}
 use Rattle.common.specs.Answers as answer
-use Rattle.common.specs.Tests.{both}
-use Rattle.grammar.specs.Tables.{picks}
-use Rattle.grammar.specs.Runs.{nameAt}
+use Rattle.common.specs.Laws.Tests.{both}
+use Rattle.grammar.specs.Laws.Tables.{picks}
+use Rattle.grammar.specs.Laws.Runs.{nameAt}
 use Rattle.sources.specs.Labels.{Site}
 use Rattle.sources.specs.Meaning.{most}
 use Rattle.tokens.specs.declared.Taken.{Taken}

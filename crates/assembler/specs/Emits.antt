@@ -15,20 +15,20 @@ use lib.Seq.{take-suc-set}
 use Rattle.common.specs.Answers as answer
 use Rattle.common.specs.Instructions.{bit}
 use Rattle.grammar.specs.Trees.{nothing, labelled, instruction, value}
-use Rattle.grammar.specs.Reader.{got, fault, deep}
-use Rattle.grammar.specs.Tables.{same-refl}
-use Rattle.grammar.specs.Runs.{nameAt, lineAt, lineEnd}
-use Rattle.grammar.specs.Shapes.{shapeOf}
+use Rattle.grammar.specs.Reading.Reader.{got, fault, deep}
+use Rattle.grammar.specs.Laws.Tables.{same-refl}
+use Rattle.grammar.specs.Laws.Runs.{nameAt, lineAt, lineEnd}
+use Rattle.grammar.specs.Reading.Shapes.{shapeOf}
 use Rattle.sources.specs.Texts.{Reading, reading, readings}
 use Rattle.sources.specs.Values.{Valued, is, unknown, outside}
 use Rattle.sources.specs.Labels.{Site, holds, wordsIn, defined, first, address}
 use Rattle.sources.specs.Words.{datum, instructionWord}
 use Rattle.sources.specs.Meaning.{most, Outcome, empty, word, at-fault, placed, outcome, meaning}
-use Rattle.sources.specs.Places.{readingsFrom}
-use Rattle.sources.specs.PlaceLaws.{readings-next}
-use Rattle.sources.specs.FirstLaws.{first-defined}
-use Rattle.sources.specs.Registers.{read-registers}
-use Rattle.sources.specs.Walks.{Walked, walk-ends, walk-faults, walk-passes, walk-holds}
+use Rattle.sources.specs.Laws.Places.{readingsFrom}
+use Rattle.sources.specs.Laws.PlaceLaws.{readings-next}
+use Rattle.sources.specs.Laws.FirstLaws.{first-defined}
+use Rattle.sources.specs.Laws.Registers.{read-registers}
+use Rattle.sources.specs.Laws.Walks.{Walked, walk-ends, walk-faults, walk-passes, walk-holds}
 use Rattle.tokens.specs.Streams.{tokenAt}
 use Rattle.values.specs.declared.Fitted.{Fitted}
 use Rattle.values.specs.Values.{fitted}

@@ -4,7 +4,7 @@ use Prim.Native.Nat.{ℕ, _%_, _<_}
 use native.Mathlib.Nat.{mod-eq-of-lt}
 use native.Mathlib.Omega.{arith}
 use Rattle.common.specs.Words.{encode}
-use Rattle.common.specs.WordLaws.{Allowed, allowed-is}
+use Rattle.common.specs.Laws.WordLaws.{Allowed, allowed-is}
 use Rattle.sources.specs.Values.{Valued, is, unknown, outside, after}
 use Rattle.sources.specs.Words.{fields, wordOf}
 use Rattle.values.specs.Fields.{fittedOf}

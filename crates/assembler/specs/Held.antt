@@ -8,7 +8,7 @@ use Prim.Native.Nat.{ℕ, _%_, _<_, _≤_}
 use native.Mathlib.Nat.{mod-eq-of-lt}
 use native.Mathlib.Omega.{arith}
 use borrow.Author.Tests.{eq-eqb, ne-eqb}
-use Rattle.common.specs.WordLaws.{Allowed}
+use Rattle.common.specs.Laws.WordLaws.{Allowed}
 use Rattle.grammar.specs.Tokens.{Token, mnemonic, register, comma, Nop, Halt, Const, Bnz, one, two, three, opcode}
 use Rattle.grammar.specs.Trees.{Expr, product, negative, more, Product, factor, times, Factor, literal, label, here, group, Instruction, nop, halt, constant, moving, computing, jumping, branching, depthE, depthI}
 use Rattle.grammar.specs.Grammar.{Choices, optional, writeE, writeP, writeF, writeI, deepest}
@@ -16,9 +16,9 @@ use lib.IntN.{ℤ}
 use Rattle.sources.specs.Values.{Valued, is, after, valueE}
 use Rattle.sources.specs.Labels.{Site}
 use Rattle.sources.specs.Words.{inField, Fields, fields, fieldsOf, immediate, displacement, datum, instructionWord}
-use Rattle.sources.specs.Registers.{Registers}
-use Rattle.sources.specs.Decodes.{fields-allowed}
-use Rattle.grammar.specs.Kinds.{kindOf}
+use Rattle.sources.specs.Laws.Registers.{Registers}
+use Rattle.sources.specs.Theorems.Decodes.{fields-allowed}
+use Rattle.grammar.specs.Reading.Kinds.{kindOf}
 use Rattle.tokens.specs.Streams.{stream, tokenAt}
 use Rattle.tokens.specs.Heads.{head}
 use Rattle.values.specs.Values.{fit}

@@ -4,8 +4,8 @@ use mathlib.Core.Bool.{Bool, true, false, cond}
 use mathlib.Core.List.{List}
 use Prim.Native.Nat.{ℕ}
 use lib.Dec.{eqb, leb}
-use Rattle.grammar.specs.Runs.{nameAt}
-use Rattle.grammar.specs.Shapes.{label}
+use Rattle.grammar.specs.Laws.Runs.{nameAt}
+use Rattle.grammar.specs.Reading.Shapes.{label}
 use Rattle.sources.specs.Texts.{readings}
 use Rattle.sources.specs.Labels.{first}
 use Rattle.tokens.specs.Streams.{tokenAt}

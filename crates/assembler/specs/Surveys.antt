@@ -8,14 +8,14 @@ use Prim.Native.Nat.{ℕ, _+_, _<_, _≤_}
 use borrow.Author.Tests.{eqb-true, eqb-false, leb-false, eq-eqb, ne-eqb, not-true, not-false}
 use lib.Dec.{eqb, leb}
 use lib.ListN.{length, replicate}
-use Rattle.common.specs.Tests.{clash}
-use Rattle.grammar.specs.Lexer.{same}
-use Rattle.grammar.specs.Tables.{same-true}
-use Rattle.grammar.specs.Runs.{nameAt, lineAt, lineEnd}
-use Rattle.grammar.specs.Shapes.{shapeOf}
+use Rattle.common.specs.Laws.Tests.{clash}
+use Rattle.grammar.specs.Reading.Lexer.{same}
+use Rattle.grammar.specs.Laws.Tables.{same-true}
+use Rattle.grammar.specs.Laws.Runs.{nameAt, lineAt, lineEnd}
+use Rattle.grammar.specs.Reading.Shapes.{shapeOf}
 use Rattle.sources.specs.Texts.{reading, readings}
 use Rattle.sources.specs.Labels.{Site, site, holds, defines, first}
-use Rattle.sources.specs.FirstLaws.{ahead, ahead-start, ahead-past, ahead-here, ahead-next}
+use Rattle.sources.specs.Laws.FirstLaws.{ahead, ahead-start, ahead-past, ahead-here, ahead-next}
 use Rattle.tokens.specs.declared.Taken.{Taken}
 use Rattle.tokens.specs.Streams.{tokenAt}
 use Rattle.label_table.specs.declared.Found.{Found}

@@ -1,7 +1,7 @@
 // The first pass: every label's first line goes into the table.
 ghost use mathlib.Core.Path.{_≡_};
 ghost use lib.ListN.{replicate};
-ghost use Rattle.grammar.specs.Shapes.{shapeOf};
+ghost use Rattle.grammar.specs.Reading.Shapes.{shapeOf};
 ghost use Rattle.assembler.specs.Survey.{noted, notedAt, Surveyed};
 use label_table::SIZE;
 

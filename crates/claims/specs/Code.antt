@@ -13,9 +13,9 @@ use Rattle.rules.specs.State.{State}
 use Rattle.rules.specs.Step.{step}
 use Rattle.rules.specs.Run.{run}
 use Rattle.rules.specs.Images.{entryIn, wordsOf, regsOf, loaded, load, imageBytes, write}
-use Rattle.rules.specs.Match.{Match}
-use Rattle.rules.specs.Changes.{Changes, Stored}
-use Rattle.rules.specs.Agreement as agreement
+use Rattle.rules.specs.BothMachines.Match.{Match}
+use Rattle.rules.specs.BothMachines.Changes.{Changes, Stored}
+use Rattle.rules.specs.BothMachines.Agreement as agreement
 use Rattle.instructions.specs.declared.Decoded.{Decoded}
 use Rattle.instructions.specs.declared.Encoded.{Encoded}
 use Rattle.instructions.specs.Promises.{decoded, encoded}

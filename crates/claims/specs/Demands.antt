@@ -11,10 +11,10 @@ use lib.Dec.{leb, eqb}
 use lib.ListN.{getD, length, take, drop}
 use Rattle.common.specs.Opcodes as is
 use Rattle.common.specs.Words.{allowed, opOf, aOf, bOf, lowOf, decode, encode}
-use Rattle.common.specs.WordLaws as words
+use Rattle.common.specs.Laws.WordLaws as words
 use Rattle.common.specs.Instructions.{reg}
 use Rattle.common.specs.Services.{isService}
-use Rattle.common.specs.Tests.{both}
+use Rattle.common.specs.Laws.Tests.{both}
 use Rattle.paper.specs.Abstract as paper
 use Rattle.rules.specs.Compartments.{main}
 use Rattle.rules.specs.State.{State}
@@ -23,13 +23,13 @@ use Rattle.rules.specs.Run.{Ran, run}
 use Rattle.rules.specs.Images.{sizeIn, entryIn, wordsOf, regsOf, loaded, load, imageBytes, write}
 use Rattle.rules.specs.Cascades.{Check, Exactly}
 use Rattle.rules.specs.Conditions.{loadForbidden, checks}
-use Rattle.rules.specs.Numbers.{step-number}
-use Rattle.rules.specs.ImageNumbers.{loadChecks, load-number, writeChecks, write-number}
-use Rattle.rules.specs.Grows.{run-same-sizes}
-use Rattle.rules.specs.Stays as stays
-use Rattle.rules.specs.Refusals as refusals
-use Rattle.rules.specs.Match.{Match}
-use Rattle.rules.specs.Agreement as agreement
+use Rattle.rules.specs.Theorems.Numbers.{step-number}
+use Rattle.rules.specs.Theorems.ImageNumbers.{loadChecks, load-number, writeChecks, write-number}
+use Rattle.rules.specs.Theorems.Grows.{run-same-sizes}
+use Rattle.rules.specs.Theorems.Stays as stays
+use Rattle.rules.specs.Theorems.Refusals as refusals
+use Rattle.rules.specs.BothMachines.Match.{Match}
+use Rattle.rules.specs.BothMachines.Agreement as agreement
 use Rattle.machine.specs.declared.Processor.{Processor}
 use Rattle.machine.specs.declared.Stepped as code
 use Rattle.machine.specs.declared.Ran as code-run

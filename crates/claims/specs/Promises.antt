@@ -8,8 +8,8 @@ use lib.Dec.{ltb, leb, eqb}
 use lib.ListN.{getD, length, take, drop}
 use Rattle.common.specs.Opcodes as is
 use Rattle.common.specs.Words.{instruction, none, opOf, aOf, bOf, lowOf, decode, encode}
-use Rattle.common.specs.WordLaws as words
-use Rattle.common.specs.WordLaws.{Allowed, Outside}
+use Rattle.common.specs.Laws.WordLaws as words
+use Rattle.common.specs.Laws.WordLaws.{Allowed, Outside}
 use Rattle.common.specs.Instructions.{forward, back, offset, reg}
 use Rattle.common.specs.AddressSets.{isEmpty, inSet}
 use Rattle.rules.specs.State.{State}
@@ -17,17 +17,17 @@ use Rattle.rules.specs.Checks.{arrives, setA, goodSets, setsWithin, returns}
 use Rattle.rules.specs.Step.{step}
 use Rattle.rules.specs.Run.{Ran, run}
 use Rattle.rules.specs.Images.{field, whole, sizeIn, registersAt, registersIn, entryAt, entryIn, load, imageBytes, write}
-use Rattle.rules.specs.Lines.{At, TagsAsLoaded, Called, table, All}
-use Rattle.rules.specs.LineProofs.{lines}
+use Rattle.rules.specs.Examples.Lines.{At, TagsAsLoaded, Called, table, All}
+use Rattle.rules.specs.Examples.LineProofs.{lines}
 use Rattle.rules.specs.Cascades.{on, Exactly, NoneHolds}
 use Rattle.rules.specs.Conditions as of
-use Rattle.rules.specs.Numbers as numbers
-use Rattle.rules.specs.ImageNumbers as image-numbers
-use Rattle.rules.specs.Additive as additive
-use Rattle.rules.specs.Counted as counts
-use Rattle.rules.specs.Grows as grows
-use Rattle.rules.specs.Rest as rest
-use Rattle.rules.specs.Alike as alike
+use Rattle.rules.specs.Theorems.Numbers as numbers
+use Rattle.rules.specs.Theorems.ImageNumbers as image-numbers
+use Rattle.rules.specs.Theorems.Additive as additive
+use Rattle.rules.specs.Theorems.Counted as counts
+use Rattle.rules.specs.Theorems.Grows as grows
+use Rattle.rules.specs.Theorems.Rest as rest
+use Rattle.rules.specs.Theorems.Alike as alike
 use Rattle.rules.specs.Compartments.{member, insert, empty, services, size, lowest}
 use Rattle.compartments.specs.declared.Set.{Set}
 use Rattle.compartments.specs.Promises as sets

@@ -11,28 +11,28 @@ use Rattle.rules.specs.State.{State}
 use Rattle.rules.specs.Images.{Written}
 use Rattle.grammar.specs.Trees.{Expr, Instruction, Line, instruction, value}
 use Rattle.grammar.specs.Grammar.{Choices, write, deepest}
-use Rattle.grammar.specs.Reader.{got}
+use Rattle.grammar.specs.Reading.Reader.{got}
 use Rattle.grammar.specs.Sources.{SourceSays, SourceTooDeep}
-use Rattle.grammar.specs.Verdicts as verdicts
-use Rattle.grammar.specs.SourceVerdicts as readings-of
+use Rattle.grammar.specs.Laws.Verdicts as verdicts
+use Rattle.grammar.specs.Laws.SourceVerdicts as readings-of
 use Rattle.sources.specs.Values.{is, unknown, outside, valueE}
 use Rattle.sources.specs.Texts.{lines, Reading, reading, readings}
 use Rattle.sources.specs.Labels.{wordsIn, address}
 use Rattle.sources.specs.Meaning.{at-fault, outcome, says, refused, meaning, assemble}
 use Rattle.sources.specs.Meaning as sources
 use Rattle.sources.specs.Listing.{listing, disassemble}
-use Rattle.sources.specs.OnTheWay.{Known, Unknown, Stays, Leaves, plainE}
-use Rattle.sources.specs.ValueLaws as values
-use Rattle.sources.specs.LabelLaws as labels
-use Rattle.sources.specs.LineNumbers as line
-use Rattle.sources.specs.TextNumbers as text
-use Rattle.sources.specs.Assembling as assembling
-use Rattle.sources.specs.Decodes.{Decodes}
-use Rattle.sources.specs.TextDecodes as decodes
-use Rattle.sources.specs.Accepted as accepted
-use Rattle.sources.specs.ListingBack as back
-use Rattle.sources.specs.ListingLengths as lengths
-use Rattle.sources.specs.ListingNumbers as listing-numbers
+use Rattle.sources.specs.Laws.OnTheWay.{Known, Unknown, Stays, Leaves, plainE}
+use Rattle.sources.specs.Laws.ValueLaws as values
+use Rattle.sources.specs.Laws.LabelLaws as labels
+use Rattle.sources.specs.Laws.LineNumbers as line
+use Rattle.sources.specs.Theorems.TextNumbers as text
+use Rattle.sources.specs.Theorems.Assembling as assembling
+use Rattle.sources.specs.Theorems.Decodes.{Decodes}
+use Rattle.sources.specs.Theorems.TextDecodes as decodes
+use Rattle.sources.specs.Theorems.Accepted as accepted
+use Rattle.sources.specs.Listings.ListingBack as back
+use Rattle.sources.specs.Listings.ListingLengths as lengths
+use Rattle.sources.specs.Listings.ListingNumbers as listing-numbers
 use Rattle.assembler.proofs.assemble.Reads as assembler
 use Rattle.disassembler.proofs.disassemble.Reads as disassembler
 use Rattle.disassembler.specs.declared.Listed.{Listed}

@@ -10,15 +10,15 @@ use Rattle.common.specs.Instructions.{reg}
 use Rattle.common.specs.Services.{serviceCount, isService, isServiceNumber}
 use Rattle.common.specs.AddressSets.{inSet}
 use Rattle.paper.specs.Abstract as paper
-use Rattle.paper.specs.Property as property
+use Rattle.paper.specs.Theorems.Property as property
 use Rattle.rules.specs.Compartments.{empty, insert, services}
 use Rattle.rules.specs.State.{State, firstNumber, inMemory, ownerAt, owns, mayRead}
 use Rattle.rules.specs.Checks.{instructionAt, target, setR}
 use Rattle.rules.specs.Step.{step}
 use Rattle.rules.specs.Run.{run}
 use Rattle.rules.specs.Images.{load}
-use Rattle.rules.specs.Readers as readers
-use Rattle.rules.specs.Sheet as sheet
+use Rattle.rules.specs.Theorems.Readers as readers
+use Rattle.rules.specs.Theorems.Sheet as sheet
 use Rattle.claims.specs.Promises.{SameBelow, OneLength}
 
 -- ---- strict mode, of any state

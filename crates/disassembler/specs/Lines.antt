@@ -10,11 +10,11 @@ use lib.Dec.{leb}
 use lib.ListN.{length, getD, set, take, drop, length-append, take-append-drop}
 use lib.Seq.{take-suc, take-all}
 use Rattle.common.specs.Words.{Decoded, decode}
-use Rattle.common.specs.WordLaws.{decoded-small}
+use Rattle.common.specs.Laws.WordLaws.{decoded-small}
 use Rattle.sources.specs.Texts.{feed}
 use Rattle.sources.specs.Listing.{operands, numberText, wordText, listing}
-use Rattle.sources.specs.ListingRows.{name}
-use Rattle.sources.specs.ListingLengths.{listing-fits}
+use Rattle.sources.specs.Listings.ListingRows.{name}
+use Rattle.sources.specs.Listings.ListingLengths.{listing-fits}
 use Rattle.disassembler.specs.Stores.{Stored, stored-then, stored-none}
 
 -- ---- a word

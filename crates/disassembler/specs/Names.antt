@@ -5,7 +5,7 @@ use Prim.Native.Nat.{ℕ, _+_, _*_, _<_, _≤_}
 use native.Mathlib.Omega.{arith}
 use lib.ListN.{length, getD, take, drop, length-take, length-drop}
 use Rattle.grammar.specs.Bytes.{bytes}
-use Rattle.sources.specs.ListingRows.{AllBelow, none, _and_, below, name}
+use Rattle.sources.specs.Listings.ListingRows.{AllBelow, none, _and_, below, name}
 use Rattle.disassembler.specs.Stores.{Stored}
 
 -- how many letters

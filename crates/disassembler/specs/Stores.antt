@@ -9,9 +9,9 @@ use native.Mathlib.Omega.{arith}
 use lib.ListN.{getD, length, set, take, drop, length-append, length-drop}
 use lib.Seq.{sets, length-sets, take-suc, length-take-le, set-comm, getD-drop}
 use Rattle.images.specs.Stores.{sets-then}
-use Rattle.grammar.specs.Digits.{glyph, digits}
+use Rattle.grammar.specs.Laws.Digits.{glyph, digits}
 use Rattle.sources.specs.Listing.{width, decimal}
-use Rattle.sources.specs.ListingDigits.{length-digits}
+use Rattle.sources.specs.Listings.ListingDigits.{length-digits}
 
 -- a text stands from a place on, and `next` is the place after it
 pub record Stored (old : List ℕ) (at : ℕ) (text new : List ℕ) (next : ℕ) : Type 0 where

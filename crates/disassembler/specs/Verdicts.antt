@@ -11,7 +11,7 @@ use lib.ListN.{length}
 use Rattle.common.specs.Answers as answer
 use Rattle.images.specs.Stores.{sets-over}
 use Rattle.sources.specs.Listing.{listing, listVerdict, disassemble}
-use Rattle.sources.specs.ListingNumbers.{Fits, short-31, size-21, fits-0, accepts, listed}
+use Rattle.sources.specs.Listings.ListingNumbers.{Fits, short-31, size-21, fits-0, accepts, listed}
 use Rattle.disassembler.specs.Stores.{Stored}
 
 -- ---- check by check

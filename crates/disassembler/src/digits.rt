@@ -2,7 +2,7 @@
 ghost use mathlib.Core.Path.{_≡_};
 ghost use Prim.Native.Nat.{_+_, _<_, _≤_};
 ghost use lib.ListN.{length};
-ghost use Rattle.grammar.specs.Digits.{glyph, digits};
+ghost use Rattle.grammar.specs.Laws.Digits.{glyph, digits};
 ghost use Rattle.sources.specs.Listing.{width, decimal, numberText};
 ghost use Rattle.disassembler.specs.Stores.{Stored};
 

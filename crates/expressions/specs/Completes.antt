@@ -13,10 +13,10 @@ use Rattle.common.specs.Answers as answer
 use Rattle.grammar.specs.Tokens.{Token, number, name, minus, star, dot, left, right}
 use Rattle.grammar.specs.Trees.{Sign, adding, taking, Expr, product, negative, more, Product, factor, times, Factor, literal, label, here, group, depthE, depthP, depthF}
 use Rattle.grammar.specs.Grammar.{sign-of, writeE, writeP, writeF}
-use Rattle.grammar.specs.Runs.{nameAt}
+use Rattle.grammar.specs.Laws.Runs.{nameAt}
 use Rattle.sources.specs.Values as meaning
 use Rattle.sources.specs.Labels.{Site}
-use Rattle.grammar.specs.Kinds.{kindOf, clip}
+use Rattle.grammar.specs.Reading.Kinds.{kindOf, clip}
 use Rattle.tokens.specs.Streams.{stream, tokenAt}
 use Rattle.tokens.specs.Heads.{headKind, head-kind, Head, head}
 use Rattle.values.specs.declared.Value.{Value}

@@ -8,7 +8,7 @@ use Prim.Native.Nat.{ℕ, zero, suc}
 use lib.Dec.{eqb}
 use lib.ListN.{length}
 use Rattle.common.specs.Answers as answer
-use Rattle.grammar.specs.Runs.{nameAt}
+use Rattle.grammar.specs.Laws.Runs.{nameAt}
 use Rattle.sources.specs.Labels.{Site}
 use Rattle.tokens.specs.Streams.{tokenAt}
 use Rattle.values.specs.declared.Value.{Value}

@@ -7,8 +7,8 @@ use Prim.Native.Nat.{ℕ, suc, _-_}
 use native.Mathlib.Omega.{arith}
 use borrow.Author.Tests.{eq-eqb, ne-eqb}
 use Rattle.common.specs.Answers as answer
-use Rattle.common.specs.Tests.{clash}
-use Rattle.grammar.specs.Runs.{nameAt}
+use Rattle.common.specs.Laws.Tests.{clash}
+use Rattle.grammar.specs.Laws.Runs.{nameAt}
 use Rattle.sources.specs.Labels.{Site}
 use Rattle.label_table.specs.declared.Found.{Found}
 use Rattle.label_table.specs.Table.{found}

@@ -8,7 +8,7 @@ use native.Mathlib.Omega.{arith}
 use borrow.Author.Tests.{eq-eqb, ne-eqb}
 use lib.ListN.{length}
 use Rattle.common.specs.Answers as answer
-use Rattle.common.specs.Tests.{clash}
+use Rattle.common.specs.Laws.Tests.{clash}
 use Rattle.sources.specs.Labels.{Site}
 use Rattle.tokens.specs.declared.Taken.{Taken}
 use Rattle.tokens.specs.Streams.{tokenAt}

@@ -1,6 +1,6 @@
 // Small parts of an expression: a sign, a label's value, and a closing bracket.
 ghost use mathlib.Core.Path.{_≡_};
-ghost use Rattle.grammar.specs.Runs.{nameAt};
+ghost use Rattle.grammar.specs.Laws.Runs.{nameAt};
 ghost use Rattle.labels.specs.Locating.{located};
 ghost use Rattle.expressions.specs.Readers.{isSign, named, closed};
 use crate::Read;

@@ -5,27 +5,7 @@ pub mod Grammar
 pub mod Bytes
 pub mod Spelling
 pub mod Sources
--- ---- the readers
-pub mod Reader
-pub mod Lexer
-pub mod Kinds
-pub mod Shapes
--- ---- what is proved
-pub mod Opcodes
-pub mod Answers
-pub mod Complete
-pub mod StateText
-pub mod Sound
-pub mod Brackets
-pub mod Viable
-pub mod Verdicts
-pub mod Runs
-pub mod Digits
-pub mod Tables
-pub mod LexLaws
-pub mod Seams
-pub mod SourceVerdicts
-pub mod ShapeRows
-pub mod ShapeMoves
-pub mod ShapeLaws
-pub mod Samples
+-- ---- what is proved of it
+pub mod Reading
+pub mod Laws
+pub mod Examples

@@ -8,9 +8,9 @@ use borrow.Author.Tests.{leb-true, eqb-true, lt-ltb, le-ltb, le-leb, eq-eqb}
 use lib.Bits.{bitAnd, and-mask, and-block, and-le-l}
 use lib.Dec.{leb, eqb}
 use lib.Pow.{pow-pos}
-use Rattle.common.specs.Tests.{both, bool-ext}
+use Rattle.common.specs.Laws.Tests.{both, bool-ext}
 use Rattle.common.specs.Words.{row, allowed, opOf, aOf, bOf, lowOf, Decoded, instruction, none, decode}
-use Rattle.common.specs.WordLaws.{nibble, half-word, row-full, row-high, row-small}
+use Rattle.common.specs.Laws.WordLaws.{nibble, half-word, row-full, row-high, row-small}
 
 -- the bits that an opcode uses: the largest value of each field, in the field's place
 unfoldable pub usedOf : ℕ → ℕ

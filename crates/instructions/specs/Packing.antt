@@ -5,10 +5,10 @@ use Prim.Native.Nat.{ℕ, _<_}
 use native.Mathlib.Omega.{arith}
 use borrow.Author.Tests.{ltb-true, lt-ltb, not-true, not-false}
 use lib.Dec.{ltb}
-use Rattle.common.specs.Tests.{both, clash}
+use Rattle.common.specs.Laws.Tests.{both, clash}
 use Rattle.common.specs.Answers as answer
 use Rattle.common.specs.Words.{allowed, opOf, aOf, bOf, lowOf, pack, encode}
-use Rattle.common.specs.WordLaws.{is-allowed}
+use Rattle.common.specs.Laws.WordLaws.{is-allowed}
 
 abbrev pub hasRoom : ℕ → ℕ → ℕ → ℕ → Bool
 hasRoom op a b low = ltb op 14 && ltb a 16 && ltb b 16 && ltb low 65536

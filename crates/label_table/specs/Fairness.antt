@@ -8,8 +8,8 @@ use native.Mathlib.Omega.{arith}
 use borrow.Author.Tests.{eqb-true, eq-eqb}
 use lib.Dec.{eqb}
 use lib.ListN.{length}
-use Rattle.common.specs.Tests.{clash, both}
-use Rattle.grammar.specs.Lexer.{same}
+use Rattle.common.specs.Laws.Tests.{clash, both}
+use Rattle.grammar.specs.Reading.Lexer.{same}
 use Rattle.sources.specs.Labels.{Site}
 use Rattle.label_table.specs.Table.{most, hashOn, hash, count, head, name, siteOf, link, isEntry, walk, looked}
 use Rattle.label_table.specs.Steps.{walk-here}

@@ -8,8 +8,8 @@ use native.Mathlib.Omega.{arith}
 use borrow.Author.Tests.{eqb-true, eqb-false, ltb-true, ltb-false, lt-ltb}
 use lib.Dec.{eqb, ltb}
 use lib.ListN.{replicate, length-replicate, getD-replicate}
-use Rattle.grammar.specs.Lexer.{same}
-use Rattle.grammar.specs.Runs.{nameAt}
+use Rattle.grammar.specs.Reading.Lexer.{same}
+use Rattle.grammar.specs.Laws.Runs.{nameAt}
 use Rattle.sources.specs.Labels.{site}
 use Rattle.label_table.specs.Table.{most, hash, count, head, name, link, looked, added, inserted}
 use Rattle.label_table.specs.Places.{Places, length-added, count-added, head-added, head-kept, name-added, site-added, link-added, name-kept, site-kept, link-kept}

@@ -7,7 +7,7 @@ use native.Mathlib.Nat.{add-zero}
 use native.Mathlib.Omega.{arith}
 use lib.ListN.{length, getD, set, length-set}
 use lib.Seq.{sets, length-sets, getD-set-same, getD-set-other}
-use Rattle.grammar.specs.Runs.{nameAt}
+use Rattle.grammar.specs.Laws.Runs.{nameAt}
 use Rattle.sources.specs.Labels.{site}
 use Rattle.label_table.specs.Table.{most, count, head, entry, name, siteOf, link, added}
 

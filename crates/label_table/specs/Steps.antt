@@ -8,8 +8,8 @@ use native.Mathlib.Omega.{arith}
 use borrow.Author.Tests.{le-leb, lt-leb, le-ltb, lt-ltb}
 use lib.ListN.{getD, set}
 use Rattle.grammar.specs.Spelling.{in-word}
-use Rattle.grammar.specs.Lexer.{same}
-use Rattle.grammar.specs.Runs.{nameAt}
+use Rattle.grammar.specs.Reading.Lexer.{same}
+use Rattle.grammar.specs.Laws.Runs.{nameAt}
 use Rattle.tokens.specs.Names.{name-more}
 use Rattle.label_table.specs.Table.{most, hashOn, head, hash, entry, name, siteOf, link, isEntry, walk, looked, count, added, inserted}
 

@@ -6,8 +6,8 @@ use Prim.Native.Nat.{ℕ, zero, suc, _+_, _*_, _%_}
 use lib.Dec.{leb, ltb}
 use lib.ListN.{getD, set}
 use lib.Seq.{sets}
-use Rattle.grammar.specs.Lexer.{same}
-use Rattle.grammar.specs.Runs.{nameAt}
+use Rattle.grammar.specs.Reading.Lexer.{same}
+use Rattle.grammar.specs.Laws.Runs.{nameAt}
 use Rattle.sources.specs.Labels.{Site, site}
 use Rattle.label_table.specs.declared.Found.{Found}
 

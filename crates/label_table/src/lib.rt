@@ -2,7 +2,7 @@
 ghost use mathlib.Core.Path.{_≡_};
 ghost use Prim.Native.Nat.{_<_};
 ghost use lib.Dec.{leb};
-ghost use Rattle.grammar.specs.Runs.{nameAt};
+ghost use Rattle.grammar.specs.Laws.Runs.{nameAt};
 ghost use Rattle.label_table.specs.Table.{most, hash, count, looked, found, inserted};
 use tokens::folded;
 use tokens::same_name;

@@ -10,13 +10,13 @@ use Rattle.common.specs.Instructions.{bit}
 use Rattle.grammar.specs.Tokens.{name, colon}
 use Rattle.grammar.specs.Trees.{Line, nothing, labelled, instruction, value}
 use Rattle.grammar.specs.Grammar.{deepest, Says}
-use Rattle.grammar.specs.Reader.{got, fault, deep}
-use Rattle.grammar.specs.Lexer.{same}
+use Rattle.grammar.specs.Reading.Reader.{got, fault, deep}
+use Rattle.grammar.specs.Reading.Lexer.{same}
 use Rattle.grammar.specs.Sources.{SourceSays}
-use Rattle.grammar.specs.SourceVerdicts.{source-exactly}
-use Rattle.grammar.specs.Sound.{sound}
-use Rattle.grammar.specs.Shapes.{shapeOf}
-use Rattle.grammar.specs.Runs.{nameAt, lineAt}
+use Rattle.grammar.specs.Laws.SourceVerdicts.{source-exactly}
+use Rattle.grammar.specs.Laws.Sound.{sound}
+use Rattle.grammar.specs.Reading.Shapes.{shapeOf}
+use Rattle.grammar.specs.Laws.Runs.{nameAt, lineAt}
 use Rattle.sources.specs.Texts.{Reading, reading}
 use Rattle.sources.specs.Labels.{holds, defines}
 use Rattle.tokens.specs.declared.Taken.{Taken}

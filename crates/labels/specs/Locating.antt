@@ -5,7 +5,7 @@ use mathlib.Core.Option.{Option, none, some}
 use Prim.Native.Nat.{ℕ}
 use lib.Dec.{eqb}
 use Rattle.common.specs.Instructions.{bit}
-use Rattle.grammar.specs.Shapes.{word}
+use Rattle.grammar.specs.Reading.Shapes.{word}
 use Rattle.sources.specs.Texts.{readings}
 use Rattle.sources.specs.Labels.{Site, first}
 use Rattle.label_table.specs.Table.{looked}

@@ -5,12 +5,12 @@ use mathlib.Core.List.{List}
 use mathlib.Core.Option.{Option, none, some}
 use Prim.Native.Nat.{ℕ, _+_, _<_, _≤_}
 use lib.ListN.{length}
-use Rattle.common.specs.Tests.{clash}
-use Rattle.grammar.specs.Shapes.{shapeOf}
-use Rattle.grammar.specs.Runs.{lineAt, lineEnd}
+use Rattle.common.specs.Laws.Tests.{clash}
+use Rattle.grammar.specs.Reading.Shapes.{shapeOf}
+use Rattle.grammar.specs.Laws.Runs.{lineAt, lineEnd}
 use Rattle.sources.specs.Texts.{reading, readings}
 use Rattle.sources.specs.Labels.{Site, defines, first}
-use Rattle.sources.specs.FirstLaws.{ahead, ahead-past, ahead-here, ahead-next}
+use Rattle.sources.specs.Laws.FirstLaws.{ahead, ahead-past, ahead-here, ahead-next}
 use Rattle.label_table.specs.declared.Found.{Found}
 use Rattle.label_table.specs.Table.{looked, found}
 use Rattle.labels.specs.Locating.{heldBy, orElse, located}

@@ -1,7 +1,7 @@
 // Where a label is defined first.
 ghost use mathlib.Core.Path.{_≡_};
-ghost use Rattle.grammar.specs.Runs.{nameAt, lineAt};
-ghost use Rattle.grammar.specs.Shapes.{shapeOf};
+ghost use Rattle.grammar.specs.Laws.Runs.{nameAt, lineAt};
+ghost use Rattle.grammar.specs.Reading.Shapes.{shapeOf};
 ghost use Rattle.sources.specs.Texts.{reading, readings};
 ghost use Rattle.sources.specs.Labels.{defines, first};
 ghost use Rattle.label_table.specs.Table.{found};

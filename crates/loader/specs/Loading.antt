@@ -8,7 +8,7 @@ use borrow.Author.Tests.{eqb-true, not-true, not-false}
 use lib.Dec.{eqb}
 use lib.ListN.{length, set, replicate, length-set}
 use Rattle.common.specs.Answers as answer
-use Rattle.common.specs.CheckLaws.{cond-same}
+use Rattle.common.specs.Laws.CheckLaws.{cond-same}
 use Rattle.rules.specs.Compartments.{empty, services}
 use Rattle.rules.specs.State.{Processor, State}
 use Rattle.rules.specs.Checks.{sameLengths}

@@ -14,10 +14,10 @@ use Rattle.rules.specs.State.{State}
 use Rattle.rules.specs.Checks.{formed, verdict}
 use Rattle.rules.specs.Step.{Stepped, step}
 use Rattle.rules.specs.Run.{Ran, run}
-use Rattle.rules.specs.StepLaws.{run-goes-on, run-ends}
-use Rattle.rules.specs.Rest.{step-keeps-rest}
-use Rattle.rules.specs.Formed.{step-formed}
-use Rattle.rules.specs.FormLaws.{n-most}
+use Rattle.rules.specs.Laws.StepLaws.{run-goes-on, run-ends}
+use Rattle.rules.specs.Theorems.Rest.{step-keeps-rest}
+use Rattle.rules.specs.Theorems.Formed.{step-formed}
+use Rattle.rules.specs.Laws.FormLaws.{n-most}
 use Rattle.moves.specs.declared.Move.{Move}
 use Rattle.rights.specs.Rights.{free}
 use Rattle.rights.specs.Arrivals.{prevOf, jumpedOf, unasked, unasked-far, unasked-prev, unasked-jumped}

@@ -11,10 +11,10 @@ use lib.ListN.{getD, set}
 use Rattle.common.specs.Answers as answer
 use Rattle.common.specs.Opcodes as op
 use Rattle.common.specs.Words.{Decoded, decode}
-use Rattle.common.specs.WordLaws.{decoded-small, rd-small}
+use Rattle.common.specs.Laws.WordLaws.{decoded-small, rd-small}
 use Rattle.common.specs.Instructions.{reg, plus, arithmetic, pcAfter, regsAfter, wordsAfter, jumps}
 use Rattle.common.specs.Services.{isServiceNumber}
-use Rattle.common.specs.CheckLaws.{cond-same}
+use Rattle.common.specs.Laws.CheckLaws.{cond-same}
 use Rattle.rules.specs.State.{State, inMemory, hasOwner, ownerAt, jumpersAt, writersAt, readersAt, owns, mayJump, mayStore, reads}
 use Rattle.rules.specs.State as rules
 use Rattle.rules.specs.Checks.{formed, badOwner, arrives, instructionAt, storeVerdict, loadVerdict, instructionVerdict, wordVerdict, verdict}
@@ -23,7 +23,7 @@ use Rattle.memory.specs.Places.{putReg, putWord}
 use Rattle.rights.specs.Rights.{free, mayUse}
 use Rattle.rights.specs.RightsLaws.{free-below}
 use Rattle.rights.specs.Arrivals.{prevOf, jumpedOf, own-prev, own-still, leapt-prev, leapt-jumped}
-use Rattle.rules.specs.FormLaws.{numbers-good}
+use Rattle.rules.specs.Laws.FormLaws.{numbers-good}
 use Rattle.moves.specs.declared.Move.{Move}
 use Rattle.moves.specs.Moves.{no-register, nowhere, arrivesAt, mayRead, loadMove, storeMove, bnzMove, instructionMove, wordMove, moveOf}
 

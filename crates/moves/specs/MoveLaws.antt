@@ -9,9 +9,9 @@ use borrow.Author.Tests.{ltb-true, ltb-false, le-leb, eq-eqb, ne-eqb, not-true, 
 use lib.Dec.{ltb}
 use lib.ListN.{getD}
 use Rattle.common.specs.Answers as answer
-use Rattle.common.specs.Tests.{NoneOf, past}
+use Rattle.common.specs.Laws.Tests.{NoneOf, past}
 use Rattle.common.specs.Words.{Decoded, none as no-word, decode, opOf, aOf, bOf, lowOf}
-use Rattle.common.specs.WordLaws.{rd-small as register}
+use Rattle.common.specs.Laws.WordLaws.{rd-small as register}
 use Rattle.common.specs.Instructions.{plus, arithmetic}
 use Rattle.rules.specs.Compartments.{member}
 use Rattle.rights.specs.Rights.{free}

@@ -6,16 +6,16 @@ use Prim.Native.Nat.{ℕ, _-_, _<_}
 use borrow.Author.Tests.{lt-ltb, eq-eqb, ne-eqb}
 use lib.Dec.{ltb}
 use lib.ListN.{getD}
-use Rattle.common.specs.CheckLaws.{cond-same}
+use Rattle.common.specs.Laws.CheckLaws.{cond-same}
 use Rattle.common.specs.Instructions.{reg}
 use Rattle.common.specs.Services.{isolate, isService}
 use Rattle.common.specs.AddressSets.{Pair, setAt, inSet, within}
-use Rattle.common.specs.AddressSetLaws.{within-if}
+use Rattle.common.specs.Laws.AddressSetLaws.{within-if}
 use Rattle.rules.specs.Compartments.{member, empty}
-use Rattle.rules.specs.CompartmentLaws.{member-empty}
+use Rattle.rules.specs.Laws.CompartmentLaws.{member-empty}
 use Rattle.rules.specs.State.{State, inMemory, hasOwner, ownerAt, jumpersAt, writersAt, owns, mayJump, mayStore, mayRead}
 use Rattle.rules.specs.Checks.{setA, setJ, setS, setsWithin, returns}
-use Rattle.rules.specs.JoinLaws.{read-strict}
+use Rattle.rules.specs.Laws.JoinLaws.{read-strict}
 use Rattle.reach.specs.Called.{asked, reaches}
 
 -- ---- owners and sets, apart from the rest of the state

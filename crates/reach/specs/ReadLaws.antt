@@ -7,13 +7,13 @@ use native.Mathlib.Omega.{arith}
 use borrow.Author.Tests.{leb-true}
 use lib.Dec.{ltb}
 use lib.ListN.{getD}
-use Rattle.common.specs.Tests.{both}
+use Rattle.common.specs.Laws.Tests.{both}
 use Rattle.common.specs.Instructions.{reg}
 use Rattle.common.specs.AddressSets.{inside, goodSet, allFrom}
-use Rattle.common.specs.Meaning.{good-free}
+use Rattle.common.specs.Laws.Meaning.{good-free}
 use Rattle.rules.specs.State.{State, inMemory, hasOwner, ownerAt, readersAt, owns, mayRead, reads}
 use Rattle.rules.specs.Checks.{goodSets}
-use Rattle.rules.specs.Sheet.{free}
+use Rattle.rules.specs.Theorems.Sheet.{free}
 use Rattle.address_sets.specs.SetLaws.{inOrder}
 use Rattle.reach.specs.Called.{reading, reaches}
 use Rattle.reach.specs.ReachLaws.{seen, reaches-read}

@@ -9,12 +9,12 @@ use native.Mathlib.Numerals.{add-one}
 use borrow.Author.Tests.{lt-ltb, ltb-false, eqb-true, eq-eqb, not-true, not-false}
 use lib.Dec.{ltb, eqb}
 use lib.ListN.{getD, length}
-use Rattle.common.specs.Tests.{bool-ext}
+use Rattle.common.specs.Laws.Tests.{bool-ext}
 use Rattle.common.specs.Instructions.{bit}
 use Rattle.common.specs.Services.{isolate, serviceCount, isService, serviceAt}
-use Rattle.common.specs.ServiceLaws.{is-service, is-fourth}
+use Rattle.common.specs.Laws.ServiceLaws.{is-service, is-fourth}
 use Rattle.rules.specs.Compartments.{member, size}
-use Rattle.rules.specs.CompartmentLaws.{member-empty}
+use Rattle.rules.specs.Laws.CompartmentLaws.{member-empty}
 use Rattle.rules.specs.State.{State, inMemory, hasOwner, ownerAt, jumpersAt, writersAt, owns, mayJump, mayStore}
 use Rattle.rules.specs.Counts.{countFrom, addressCount, ownedCount, jumpCount, storeCount, mostOnes}
 

@@ -11,14 +11,14 @@ use lib.Dec.{ltb}
 use lib.ListN.{getD, length}
 use Rattle.common.specs.Instructions.{bit}
 use Rattle.common.specs.Services.{isolate, serviceCount, isService}
-use Rattle.common.specs.ServiceLaws.{no-service}
+use Rattle.common.specs.Laws.ServiceLaws.{no-service}
 use Rattle.paper.specs.Abstract as paper
 use Rattle.rules.specs.Compartments.{size}
-use Rattle.rules.specs.CompartmentLaws.{member-empty}
+use Rattle.rules.specs.Laws.CompartmentLaws.{member-empty}
 use Rattle.rules.specs.State.{State, inMemory, hasOwner, jumpersAt, writersAt, owns, mayJump, mayStore}
 use Rattle.rules.specs.Checks.{sized}
-use Rattle.rules.specs.FormLaws.{is-sized}
-use Rattle.rules.specs.Match.{Match}
+use Rattle.rules.specs.Laws.FormLaws.{is-sized}
+use Rattle.rules.specs.BothMachines.Match.{Match}
 use Rattle.rules.specs.Counts.{countFrom, addressCount, ownedCount, jumpCount, storeCount, mostOnes, widest}
 use Rattle.report.specs.CountLaws.{count-same}
 

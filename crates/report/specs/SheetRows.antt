@@ -15,7 +15,7 @@ use Rattle.rules.specs.Step as step
 use Rattle.rules.specs.Run.{run}
 use Rattle.rules.specs.Images.{field, fields, entryVerdict, lastListed, registersVerdict, imageVerdict, blank, loaded, notLoaded, loadVerdict, load, allBytes, section, listed, imageBytes}
 use Rattle.rules.specs.Counts.{countFrom, addressCount, ownedCount, jumpCount, storeCount, mostOnes, widest}
-use Rattle.rules.specs.Samples.{image-one, image-two}
+use Rattle.rules.specs.Examples.Samples.{image-one, image-two}
 
 -- memories longer than N, with tags beyond it that would be counted were they looked at
 abbrev lent : State

@@ -4,7 +4,7 @@ use mathlib.Core.Bool.{Bool, true, false, or-true}
 use Prim.Native.Nat.{ℕ, _<_}
 use borrow.Author.Tests.{leb-false}
 use lib.Dec.{leb}
-use Rattle.common.specs.Tests.{clash}
+use Rattle.common.specs.Laws.Tests.{clash}
 use Rattle.rights.specs.Rights.{free}
 
 pub free-below : (strict : Bool) (owner next : ℕ) → free strict owner next ≡ true → owner < next

@@ -11,13 +11,13 @@ use lib.ListN.{getD}
 use Rattle.common.specs.Answers as answer
 use Rattle.common.specs.Instructions.{reg, plus}
 use Rattle.common.specs.Services.{isolate, add-jump-target, add-store-target, add-read-target, serviceCount, isService, serviceAt, isServiceNumber}
-use Rattle.common.specs.ServiceLaws.{service-number, is-service, other-place}
-use Rattle.common.specs.Tests.{both, clash}
+use Rattle.common.specs.Laws.ServiceLaws.{service-number, is-service, other-place}
+use Rattle.common.specs.Laws.Tests.{both, clash}
 use Rattle.rules.specs.Compartments.{member, empty}
 use Rattle.rules.specs.State.{Processor, State, inMemory, hasOwner, ownerAt, jumpersAt, writersAt, readersAt, owns, mayJump, mayStore, mayRead, reads}
 use Rattle.rules.specs.Checks.{seated, formed, badOwner, arrives, goodSets, setsWithin, returns, setA, setJ, setS, setR, isolateVerdict, addVerdict, serviceVerdict, verdict}
 use Rattle.rules.specs.Step.{Stepped, owned, joined, joinedServices, joinAt, isolated, jumpAdded, storeAdded, readAdded, ranService, commit, step}
-use Rattle.rules.specs.FormLaws.{is-formed, is-numbered}
+use Rattle.rules.specs.Laws.FormLaws.{is-formed, is-numbered}
 use Rattle.monitor.specs.Outcomes.{called, isolating, Adding, adding}
 use Rattle.service.specs.Served.{isolatedBy, addedBy, grown, Serving, callOf, addOf, isolates, adds-jump, adds-store, adds-read, serving}
 

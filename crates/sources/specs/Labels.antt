@@ -4,8 +4,8 @@ use mathlib.Core.List.{List, [], _∷_}
 use mathlib.Core.Option.{Option, none, some, Option·map}
 use Prim.Native.Nat.{ℕ, _+_}
 use Rattle.grammar.specs.Trees.{nothing, labelled, instruction, value}
-use Rattle.grammar.specs.Reader.{got, fault, deep}
-use Rattle.grammar.specs.Lexer.{same}
+use Rattle.grammar.specs.Reading.Reader.{got, fault, deep}
+use Rattle.grammar.specs.Reading.Lexer.{same}
 use Rattle.sources.specs.Texts.{Reading}
 
 -- how many words a line holds; "lines at 50 and 54 define no label and hold no word"

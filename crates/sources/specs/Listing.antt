@@ -9,7 +9,7 @@ use Rattle.common.specs.Opcodes as is
 use Rattle.common.specs.Words.{Decoded, decode}
 use Rattle.rules.specs.Images.{over, Written}
 use Rattle.grammar.specs.Bytes.{bytes}
-use Rattle.grammar.specs.Digits.{digits}
+use Rattle.grammar.specs.Laws.Digits.{digits}
 use Rattle.sources.specs.Texts.{feed}
 
 -- how many decimal digits a number has

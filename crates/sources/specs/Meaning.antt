@@ -7,7 +7,7 @@ use lib.ListN.{length, replicate}
 use Rattle.common.specs.Answers as answer
 use Rattle.rules.specs.Images as image
 use Rattle.grammar.specs.Trees.{nothing, labelled, instruction, value}
-use Rattle.grammar.specs.Reader.{got, fault, deep}
+use Rattle.grammar.specs.Reading.Reader.{got, fault, deep}
 use Rattle.sources.specs.Values.{Valued, is, unknown, outside}
 use Rattle.sources.specs.Texts.{Reading, readings}
 use Rattle.sources.specs.Labels.{wordsIn, defined, address}

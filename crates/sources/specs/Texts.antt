@@ -5,7 +5,7 @@ use Prim.Native.Nat.{ℕ}
 use lib.Dec.{eqb}
 use Rattle.grammar.specs.Trees.{Line}
 use Rattle.grammar.specs.Grammar.{deepest}
-use Rattle.grammar.specs.Reader.{Answer}
+use Rattle.grammar.specs.Reading.Reader.{Answer}
 use Rattle.grammar.specs.Sources.{answer}
 
 -- LF

@@ -11,12 +11,12 @@ use lib.Dec.{eqb}
 use Rattle.common.specs.Answers as answer
 use Rattle.grammar.specs.Tokens.{register, comma, colon, left, right}
 use Rattle.grammar.specs.Grammar.{deepest}
-use Rattle.grammar.specs.Reader.{Answer, got, deep, or-fault}
-use Rattle.grammar.specs.Kinds as kind
-use Rattle.grammar.specs.Kinds.{kindOf}
-use Rattle.grammar.specs.Shapes.{numbered, lone, outside, closed, level}
-use Rattle.grammar.specs.Answers.{All}
-use Rattle.grammar.specs.Tables.{picks}
+use Rattle.grammar.specs.Reading.Reader.{Answer, got, deep, or-fault}
+use Rattle.grammar.specs.Reading.Kinds as kind
+use Rattle.grammar.specs.Reading.Kinds.{kindOf}
+use Rattle.grammar.specs.Reading.Shapes.{numbered, lone, outside, closed, level}
+use Rattle.grammar.specs.Laws.Answers.{All}
+use Rattle.grammar.specs.Laws.Tables.{picks}
 
 abbrev pub leveled : ℕ → ℕ → Answer ℕ
 leveled k d = cond (eqb k (kindOf left) && eqb d deepest) deep (or-fault (level k d))

@@ -11,14 +11,14 @@ use lib.Dec.{eqb}
 use lib.ListN.{length}
 use Rattle.grammar.specs.Tokens.{Token, left}
 use Rattle.grammar.specs.Grammar.{deepest}
-use Rattle.grammar.specs.Reader.{Answer, got, fault, deep, or-fault, then}
-use Rattle.grammar.specs.Kinds as kind
-use Rattle.grammar.specs.Kinds.{kindOf}
-use Rattle.grammar.specs.Shapes.{numbered, no, rows, nextOf, level, Control, at, step, ending, shapeFrom, shape, shapeOf}
-use Rattle.grammar.specs.Answers.{All}
-use Rattle.grammar.specs.Runs.{lineAt}
-use Rattle.grammar.specs.Lexer.{tokens}
-use Rattle.grammar.specs.ShapeLaws.{shapes}
+use Rattle.grammar.specs.Reading.Reader.{Answer, got, fault, deep, or-fault, then}
+use Rattle.grammar.specs.Reading.Kinds as kind
+use Rattle.grammar.specs.Reading.Kinds.{kindOf}
+use Rattle.grammar.specs.Reading.Shapes.{numbered, no, rows, nextOf, level, Control, at, step, ending, shapeFrom, shape, shapeOf}
+use Rattle.grammar.specs.Laws.Answers.{All}
+use Rattle.grammar.specs.Laws.Runs.{lineAt}
+use Rattle.grammar.specs.Reading.Lexer.{tokens}
+use Rattle.grammar.specs.Laws.ShapeLaws.{shapes}
 use Rattle.sources.specs.Texts.{reading}
 use Rattle.tokens.specs.Streams.{stream, tokenAt, tokenIn}
 use Rattle.tokens.specs.StreamLaws.{There, there, stream-ends, stream-line}

@@ -8,11 +8,11 @@ use native.Mathlib.Omega.{arith}
 use borrow.Author.Tests.{eqb-true, ltb-true}
 use lib.Dec.{eqb, ltb}
 use lib.ListN.{getD}
-use Rattle.common.specs.Tests.{both}
+use Rattle.common.specs.Laws.Tests.{both}
 use Rattle.grammar.specs.Tokens.{Token, mnemonic, register, name, number, comma, colon, plus, minus, star, dot, left, right, stray, Nop, Halt, Const, Bnz, one, two, three}
-use Rattle.grammar.specs.Kinds.{kindOf}
-use Rattle.grammar.specs.Shapes.{no, rows, nextOf}
-use Rattle.grammar.specs.Tables.{either, all-below, below}
+use Rattle.grammar.specs.Reading.Kinds.{kindOf}
+use Rattle.grammar.specs.Reading.Shapes.{no, rows, nextOf}
+use Rattle.grammar.specs.Laws.Tables.{either, all-below, below}
 
 -- as the code reads it
 abbrev pub entry : List (List ℕ) → ℕ → ℕ → ℕ

@@ -1,9 +1,9 @@
 // The shape of a line of source: nothing, a label, a word of memory, or no line.
 ghost use mathlib.Core.Path.{_≡_};
 ghost use Prim.Native.Nat.{_≤_};
-ghost use Rattle.grammar.specs.Shapes.{shapeOf, rows, lone};
+ghost use Rattle.grammar.specs.Reading.Shapes.{shapeOf, rows, lone};
 ghost use Rattle.sources.specs.Texts.{reading};
-ghost use Rattle.grammar.specs.Runs.{lineAt};
+ghost use Rattle.grammar.specs.Laws.Runs.{lineAt};
 ghost use Rattle.syntax.specs.Levels.{levelOf};
 
 // The shapes; a line with nothing on it is 0.

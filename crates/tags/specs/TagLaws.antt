@@ -12,7 +12,7 @@ use borrow.Author.Tests.{le-leb, lt-ltb, leb-true, ltb-true}
 use lib.Dec.{leb, ltb}
 use lib.ListN.{getD, length, set, length-set}
 use lib.Seq.{ext-getD, getD-set-same, getD-set-other}
-use Rattle.common.specs.Tests.{both, bool-ext}
+use Rattle.common.specs.Laws.Tests.{both, bool-ext}
 use Rattle.common.specs.Services.{isolate}
 use Rattle.common.specs.AddressSets.{Pair, pairsAt, setAt, inPair, inSet}
 use Rattle.rules.specs.Compartments.{insert}

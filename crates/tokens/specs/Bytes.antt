@@ -7,11 +7,11 @@ use Prim.Native.Nat.{ℕ, _+_, _-_, _<_, _≤_}
 use native.Mathlib.Omega.{arith}
 use borrow.Author.Tests.{eq-eqb, ne-eqb, eqb-true, le-leb, lt-leb, leb-true, lt-ltb, le-ltb}
 use lib.Dec.{eqb, leb, ltb}
-use Rattle.common.specs.Tests.{both}
+use Rattle.common.specs.Laws.Tests.{both}
 use Rattle.grammar.specs.Spelling.{between, digit, capital, small, in-word, lower, hex, digit-value, signs}
-use Rattle.grammar.specs.Lexer.{find}
-use Rattle.grammar.specs.Tables.{either}
-use Rattle.grammar.specs.Kinds.{kindOf}
+use Rattle.grammar.specs.Reading.Lexer.{find}
+use Rattle.grammar.specs.Laws.Tables.{either}
+use Rattle.grammar.specs.Reading.Kinds.{kindOf}
 use Rattle.tokens.specs.Arms.{Rest, rest-away}
 use Rattle.tokens.specs.Streams.{ends, or-stray}
 

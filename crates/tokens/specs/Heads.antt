@@ -7,8 +7,8 @@ use borrow.Author.Tests.{eqb-true, eqb-false}
 use lib.Dec.{eqb}
 use lib.ListN.{length}
 use Rattle.grammar.specs.Tokens.{Token, name}
-use Rattle.grammar.specs.Runs.{nameAt}
-use Rattle.grammar.specs.Kinds.{kindOf, numberOf}
+use Rattle.grammar.specs.Laws.Runs.{nameAt}
+use Rattle.grammar.specs.Reading.Kinds.{kindOf, numberOf}
 use Rattle.tokens.specs.KindLaws.{some-kind}
 use Rattle.tokens.specs.Streams.{stream, tokenIn, tokenAt}
 use Rattle.tokens.specs.StreamLaws.{stream-ends, there, name-is}

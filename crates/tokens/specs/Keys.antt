@@ -9,11 +9,11 @@ use native.Mathlib.Omega.{arith}
 use borrow.Author.Tests.{eqb-true, eq-eqb, ne-eqb, ltb-true, ltb-false, eqb-false}
 use lib.Dec.{eqb, ltb}
 use lib.ListN.{length}
-use Rattle.common.specs.Tests.{both, bool-ext}
+use Rattle.common.specs.Laws.Tests.{both, bool-ext}
 use Rattle.grammar.specs.Tokens.{Token}
 use Rattle.grammar.specs.Spelling.{between, every, Row, words, lower, in-word}
-use Rattle.grammar.specs.Lexer.{same, find}
-use Rattle.grammar.specs.Tables.{same-true, same-refl, each}
+use Rattle.grammar.specs.Reading.Lexer.{same, find}
+use Rattle.grammar.specs.Laws.Tables.{same-true, same-refl, each}
 use Rattle.tokens.specs.Bytes.{bounds, inside, lower-bounds}
 use Rattle.tokens.specs.Worth.{worth, worth-map, held, held-under, held-over, by-limit}
 

@@ -8,7 +8,7 @@ use lib.Dec.{eqb}
 use lib.ListN.{getD}
 use Rattle.common.specs.Opcodes as is
 use Rattle.grammar.specs.Tokens.{Token, mnemonic, register, name, number, comma, colon, plus, minus, star, dot, left, right, stray, Mnemonic, Nop, Halt, Const, Bnz, one, two, three, Single, Jump, Jal, Pair, Mov, Load, Store, Triple, Add, Sub, Mul, Eq, Leq}
-use Rattle.grammar.specs.Kinds.{kindOf, numberOf}
+use Rattle.grammar.specs.Reading.Kinds.{kindOf, numberOf}
 
 -- ---- mnemonics by their opcodes
 

@@ -9,11 +9,11 @@ use native.Mathlib.Omega.{arith}
 use borrow.Author.Tests.{eqb-true, eqb-false, ne-eqb, ltb-true}
 use lib.Dec.{eqb, ltb}
 use lib.ListN.{take, drop, take-append-drop}
-use Rattle.common.specs.Tests.{both}
+use Rattle.common.specs.Laws.Tests.{both}
 use Rattle.grammar.specs.Tokens.{Token}
 use Rattle.grammar.specs.Spelling.{between, Row, words}
-use Rattle.grammar.specs.Tables.{each}
-use Rattle.grammar.specs.Kinds.{kindOf, numberOf}
+use Rattle.grammar.specs.Laws.Tables.{each}
+use Rattle.grammar.specs.Reading.Kinds.{kindOf, numberOf}
 use Rattle.tokens.specs.Bytes.{bounds, inside, under, over}
 use Rattle.tokens.specs.Worth.{worth}
 use Rattle.tokens.specs.Arms.{Away, Rest, rest-away}

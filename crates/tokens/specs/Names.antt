@@ -6,10 +6,10 @@ use Prim.Native.Nat.{ℕ, _+_, _<_, _≤_}
 use borrow.Author.Tests.{ltb-true, ltb-false, eq-eqb, ne-eqb}
 use lib.Dec.{eqb, ltb}
 use lib.ListN.{length, getD, List·getD-eq-default}
-use Rattle.common.specs.Tests.{clash}
+use Rattle.common.specs.Laws.Tests.{clash}
 use Rattle.grammar.specs.Spelling.{digit, capital, small, in-word}
-use Rattle.grammar.specs.Lexer.{same}
-use Rattle.grammar.specs.Runs.{nameAt, reach-none, reach-end, run-more, run-empty}
+use Rattle.grammar.specs.Reading.Lexer.{same}
+use Rattle.grammar.specs.Laws.Runs.{nameAt, reach-none, reach-end, run-more, run-empty}
 use Rattle.tokens.specs.Bytes.{foldedOf, folded-out, in-folded, none-folded, some-folded}
 
 -- past the end stands 0, which is in no word

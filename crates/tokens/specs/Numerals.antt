@@ -10,9 +10,9 @@ use lib.ListN.{length, getD}
 use Rattle.grammar.specs.Tokens.{number, stray}
 use Rattle.grammar.specs.Tokens as grammar
 use Rattle.grammar.specs.Spelling.{digit, capital, small, in-word, every, hex, lower, digit-value, value}
-use Rattle.grammar.specs.Lexer.{hexadecimal-of, number-of}
-use Rattle.grammar.specs.Runs.{nameAt}
-use Rattle.grammar.specs.Kinds.{clip}
+use Rattle.grammar.specs.Reading.Lexer.{hexadecimal-of, number-of}
+use Rattle.grammar.specs.Laws.Runs.{nameAt}
+use Rattle.grammar.specs.Reading.Kinds.{clip}
 use Rattle.tokens.specs.Streams.{handed}
 use Rattle.tokens.specs.Bytes.{foldedOf, folded-in, none-folded, some-folded, digitOf, inBase, base-ten, base-sixteen, digit-worth}
 use Rattle.tokens.specs.Worth.{worth-value, held, held-small, held-again, clip-held}

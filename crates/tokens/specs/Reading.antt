@@ -9,13 +9,13 @@ use native.Mathlib.Omega.{arith}
 use borrow.Author.Tests.{eqb-true, lt-ltb, le-ltb}
 use lib.Dec.{eqb}
 use lib.ListN.{length, getD, drop}
-use Rattle.common.specs.Tests.{clash}
+use Rattle.common.specs.Laws.Tests.{clash}
 use Rattle.grammar.specs.Tokens as grammar
 use Rattle.grammar.specs.Spelling.{digit, capital, small, in-word, lower, words, signs, Row, digit-first}
-use Rattle.grammar.specs.Lexer.{find, or-label, number-of, token-of}
-use Rattle.grammar.specs.Tables.{either, find-at, each, at-each}
-use Rattle.grammar.specs.Runs.{leading, nameAt, lineOf, lineEnd, reach-more, reach-none, reach-end}
-use Rattle.grammar.specs.Kinds.{kindOf, numberOf}
+use Rattle.grammar.specs.Reading.Lexer.{find, or-label, number-of, token-of}
+use Rattle.grammar.specs.Laws.Tables.{either, find-at, each, at-each}
+use Rattle.grammar.specs.Laws.Runs.{leading, nameAt, lineOf, lineEnd, reach-more, reach-none, reach-end}
+use Rattle.grammar.specs.Reading.Kinds.{kindOf, numberOf}
 use Rattle.tokens.specs.KindLaws.{some-kind}
 use Rattle.tokens.specs.Streams.{ends, skipped, more, or-stray, tokenIn, widthIn, handed, tokenAt}
 use Rattle.tokens.specs.Bytes.{foldedOf, in-word-bounds, none-folded, some-folded, markOf, inside, over}

@@ -9,14 +9,14 @@ use borrow.Author.Tests.{eqb-true, ltb-true, ltb-false, not-true, not-false}
 use lib.Dec.{eqb, ltb}
 use lib.ListN.{length, getD, take, drop, drop-of-length-le, length-drop}
 use lib.Seq.{drop-drop, length-take-le}
-use Rattle.common.specs.Tests.{clash, both}
+use Rattle.common.specs.Laws.Tests.{clash, both}
 use Rattle.grammar.specs.Tokens as grammar
 use Rattle.grammar.specs.Spelling.{digit, in-word, blank, lower, hex, every, value, Row, words, signs, digit-first, Apart, uncommented}
-use Rattle.grammar.specs.Lexer.{find, hexadecimal-of, number-of, or-label, token-of, class, marked, put, lex, tokens}
-use Rattle.grammar.specs.Tables.{find-at, each, at-each}
-use Rattle.grammar.specs.LexLaws.{next-blank, next-word}
-use Rattle.grammar.specs.Runs.{leading, nameAt, lineOf, lineAt, front, reach-more}
-use Rattle.grammar.specs.Kinds.{kindOf, numberOf}
+use Rattle.grammar.specs.Reading.Lexer.{find, hexadecimal-of, number-of, or-label, token-of, class, marked, put, lex, tokens}
+use Rattle.grammar.specs.Laws.Tables.{find-at, each, at-each}
+use Rattle.grammar.specs.Laws.LexLaws.{next-blank, next-word}
+use Rattle.grammar.specs.Laws.Runs.{leading, nameAt, lineOf, lineAt, front, reach-more}
+use Rattle.grammar.specs.Reading.Kinds.{kindOf, numberOf}
 use Rattle.tokens.specs.KindLaws.{nameOf, some-kind}
 use Rattle.tokens.specs.Streams.{ends, code, stream, skipped, more, or-stray, tokenIn, widthIn, handed, tokenAt}
 use Rattle.tokens.specs.Words.{run-every}

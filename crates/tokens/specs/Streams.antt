@@ -7,9 +7,9 @@ use lib.Dec.{eqb, ltb}
 use lib.ListN.{length, getD, drop}
 use Rattle.grammar.specs.Tokens as grammar
 use Rattle.grammar.specs.Spelling.{in-word, blank, signs}
-use Rattle.grammar.specs.Lexer.{find, token-of, lex}
-use Rattle.grammar.specs.Runs.{leading, nameAt}
-use Rattle.grammar.specs.Kinds.{kindOf, numberOf}
+use Rattle.grammar.specs.Reading.Lexer.{find, token-of, lex}
+use Rattle.grammar.specs.Laws.Runs.{leading, nameAt}
+use Rattle.grammar.specs.Reading.Kinds.{kindOf, numberOf}
 use Rattle.tokens.specs.declared.Taken.{Taken}
 
 -- LF and the semicolon end what is read of a line

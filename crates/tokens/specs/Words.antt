@@ -8,9 +8,9 @@ use native.Mathlib.Omega.{arith}
 use lib.ListN.{length, getD, take, drop}
 use Rattle.grammar.specs.Tokens as grammar
 use Rattle.grammar.specs.Spelling.{in-word, every, lower, words}
-use Rattle.grammar.specs.Lexer.{find, or-label}
-use Rattle.grammar.specs.Runs.{leading, nameAt}
-use Rattle.grammar.specs.Kinds.{kindOf, numberOf}
+use Rattle.grammar.specs.Reading.Lexer.{find, or-label}
+use Rattle.grammar.specs.Laws.Runs.{leading, nameAt}
+use Rattle.grammar.specs.Reading.Kinds.{kindOf, numberOf}
 use Rattle.tokens.specs.Streams.{handed}
 use Rattle.tokens.specs.Bytes.{foldedOf, folded-in, none-folded, some-folded}
 use Rattle.tokens.specs.Worth.{worth, held, held-small, held-again}

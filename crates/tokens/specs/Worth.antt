@@ -8,7 +8,7 @@ use native.Mathlib.Omega.{arith}
 use borrow.Author.Tests.{lt-ltb, le-ltb, ltb-true, ltb-false}
 use lib.Dec.{ltb}
 use Rattle.grammar.specs.Spelling.{digit-value, value}
-use Rattle.grammar.specs.Kinds.{clip}
+use Rattle.grammar.specs.Reading.Kinds.{clip}
 
 -- the number that bytes make behind n, each for as much as f says
 unfoldable pub worth : (ℕ → ℕ) → ℕ → ℕ → List ℕ → ℕ

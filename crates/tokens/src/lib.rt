@@ -5,13 +5,13 @@ mod reading;
 mod words;
 
 ghost use mathlib.Core.Path.{_≡_};
-ghost use Rattle.grammar.specs.Lexer.{same};
-ghost use Rattle.grammar.specs.Runs.{nameAt, lineEnd};
+ghost use Rattle.grammar.specs.Reading.Lexer.{same};
+ghost use Rattle.grammar.specs.Laws.Runs.{nameAt, lineEnd};
 use crate::bytes::byte;
 pub use bytes::folded;
 pub use reading::token;
 
-// The kinds of tokens, the same numbers as in crates/grammar/specs/Kinds.antt. No token: the line ends.
+// The kinds of tokens, the same numbers as in crates/grammar/specs/Reading/Kinds.antt. No token: the line ends.
 pub const NONE: u32 = 0;
 
 // Mnemonics, by the operands that they take: none (Nop and Halt), ..

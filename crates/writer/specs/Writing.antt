@@ -9,7 +9,7 @@ use lib.Dec.{leb, ltb}
 use lib.ListN.{length, take, length-append}
 use lib.Seq.{sets, take-all}
 use Rattle.common.specs.Answers as answer
-use Rattle.common.specs.Tests.{both}
+use Rattle.common.specs.Laws.Tests.{both}
 use Rattle.rules.specs.Images.{section, listed, imageBytes, over, writeVerdict, write}
 use Rattle.images.specs.Accepted.{passed}
 use Rattle.images.specs.Listed.{listed-take}

@@ -1,6 +1,6 @@
 -- `is_formed`, test by test.
 use Rattle.form.specs.Form.{formedBy}
-use Rattle.common.specs.Tests.{stops-first, stops-second, stops-third, fourth}
+use Rattle.common.specs.Laws.Tests.{stops-first, stops-second, stops-third, fourth}
 use borrow.Author.Needs.{needs}
 use Rattle.form.proofs.is_formed.Statement.{statement}
 use Rattle.form.proofs.is_formed.Tie as tie

@@ -1,5 +1,5 @@
 -- Each arm reads its own row of the table.
-use Rattle.common.specs.Tests.{past}
+use Rattle.common.specs.Laws.Tests.{past}
 use Rattle.instructions.specs.Masks.{usedOf, used-high}
 use Rattle.common.specs.Words.{row}
 use borrow.Author.Needs.{needs}

@@ -1,7 +1,7 @@
 -- What is left to walk finds what the whole chain does.
 use mathlib.Core.Path.{_≡_, sym, ap, _∙_}
 use native.Mathlib.Omega.{arith}
-use Rattle.grammar.specs.Runs.{nameAt}
+use Rattle.grammar.specs.Laws.Runs.{nameAt}
 use Rattle.label_table.specs.Steps.{looked-begins, walked, no-entry, past-entries, walk-found, walk-on}
 use Rattle.label_table.specs.Table.{siteOf, walk, looked, found}
 use Rattle.label_table.proofs.find.Statement.{statement}

@@ -3,7 +3,7 @@ use mathlib.Core.Path.{_≡_, refl, sym, _∙_}
 use Prim.Native.Nat.{_-_, _<_}
 use native.Mathlib.Omega.{arith}
 use lib.ListN.{length}
-use Rattle.grammar.specs.Runs.{nameAt}
+use Rattle.grammar.specs.Laws.Runs.{nameAt}
 use Rattle.tokens.specs.Names.{name-none, name-past}
 use Rattle.tokens.specs.Bytes.{none-folded, some-folded}
 use Rattle.label_table.specs.Steps.{hash-more, hash-end}

@@ -1,6 +1,6 @@
 -- A line of another shape defines nothing; a label line defines the word that stands first.
 use borrow.Author.Needs.{needs}
-use Rattle.grammar.specs.Runs.{nameAt, lineAt}
+use Rattle.grammar.specs.Laws.Runs.{nameAt, lineAt}
 use Rattle.sources.specs.Texts.{reading}
 use Rattle.labels.specs.LineLaws.{defines-none, defines-name}
 use Rattle.labels.proofs.defines.Statement.{statement}

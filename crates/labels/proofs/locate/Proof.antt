@@ -1,6 +1,6 @@
 -- The table is asked first, and the text only where the table does not hold every label.
 use borrow.Author.Needs.{needs}
-use Rattle.grammar.specs.Runs.{nameAt}
+use Rattle.grammar.specs.Laws.Runs.{nameAt}
 use Rattle.labels.specs.Scans.{locate-there, locate-none, locate-scanned}
 use Rattle.labels.proofs.locate.Statement.{statement}
 use Rattle.labels.proofs.locate.Tie as tie

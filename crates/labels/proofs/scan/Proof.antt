@@ -4,11 +4,11 @@ use Prim.Native.Nat.{_+_, _-_, _≤_}
 use native.Mathlib.Omega.{arith}
 use borrow.Author.Needs.{needs}
 use lib.ListN.{length}
-use Rattle.grammar.specs.Runs.{nameAt}
+use Rattle.grammar.specs.Laws.Runs.{nameAt}
 use Rattle.sources.specs.Texts.{readings}
 use Rattle.sources.specs.Labels.{first}
-use Rattle.sources.specs.PlaceLaws.{line-end-within}
-use Rattle.sources.specs.FirstLaws.{ahead, ahead-start}
+use Rattle.sources.specs.Laws.PlaceLaws.{line-end-within}
+use Rattle.sources.specs.Laws.FirstLaws.{ahead, ahead-start}
 use Rattle.labels.specs.LineLaws.{held-small}
 use Rattle.labels.specs.Scans.{scan-past, scan-here, scan-next}
 use Rattle.labels.proofs.scan.Statement.{statement}

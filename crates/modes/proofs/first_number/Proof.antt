@@ -1,6 +1,6 @@
 -- One more than the services.
 use Rattle.rules.specs.State.{firstNumber}
-use Rattle.common.specs.ServiceLaws.{service-count}
+use Rattle.common.specs.Laws.ServiceLaws.{service-count}
 use native.Mathlib.Omega.{arith}
 use borrow.Author.Needs.{needs}
 use Rattle.modes.proofs.first_number.Statement.{statement}

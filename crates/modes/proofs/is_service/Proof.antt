@@ -1,6 +1,6 @@
 -- The services' two ends.
 use mathlib.Core.Path.{sym}
-use Rattle.common.specs.ServiceLaws.{service-count, no-service}
+use Rattle.common.specs.Laws.ServiceLaws.{service-count, no-service}
 use Rattle.common.specs.Services.{isService}
 use borrow.Author.Tests.{le-leb}
 use native.Mathlib.Omega.{arith}

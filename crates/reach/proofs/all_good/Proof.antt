@@ -1,6 +1,6 @@
 -- The sets, one after the other, the fourth in strict mode alone.
 use Rattle.reach.specs.ReadLaws.{sets-good}
-use Rattle.common.specs.Tests.{stops-first, stops-second, stops-third, fourth, unasked, asked}
+use Rattle.common.specs.Laws.Tests.{stops-first, stops-second, stops-third, fourth, unasked, asked}
 use borrow.Author.Needs.{needs}
 use Rattle.reach.proofs.all_good.Statement.{statement}
 use Rattle.reach.proofs.all_good.Tie as tie

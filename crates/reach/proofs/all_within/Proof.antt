@@ -1,6 +1,6 @@
 -- Each set is within what the caller reaches, by the sets of numbers that count for it; the fourth in strict mode alone.
 use Rattle.reach.specs.ReachLaws.{sets-within}
-use Rattle.common.specs.Tests.{stops-first, stops-second, stops-third, fourth, unasked, asked}
+use Rattle.common.specs.Laws.Tests.{stops-first, stops-second, stops-third, fourth, unasked, asked}
 use borrow.Author.Needs.{needs}
 use Rattle.reach.proofs.all_within.Statement.{statement}
 use Rattle.reach.proofs.all_within.Tie as tie

@@ -5,7 +5,7 @@ use borrow.Author.Needs.{needs}
 use borrow.Author.Tests.{le-ltb, lt-ltb, not-true, not-false}
 use Rattle.common.specs.Services.{serviceAt}
 use Rattle.rules.specs.State.{owns, hasOwner, ownerAt, inMemory}
-use Rattle.common.specs.ServiceLaws.{service-range}
+use Rattle.common.specs.Laws.ServiceLaws.{service-range}
 use Rattle.reach.proofs.owns.Statement.{statement}
 use Rattle.reach.proofs.owns.Tie as tie
 

@@ -1,6 +1,6 @@
 -- Each kind by its number; the last test is the rest.
 use mathlib.Core.Path.{sym, ap}
-use Rattle.grammar.specs.Shapes.{lone}
+use Rattle.grammar.specs.Reading.Shapes.{lone}
 use Rattle.syntax.specs.Levels.{end-lone}
 use Rattle.syntax.proofs.outside.Statement.{statement}
 use Rattle.syntax.proofs.outside.Tie as tie

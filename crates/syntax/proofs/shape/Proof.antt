@@ -3,8 +3,8 @@ use borrow.Author.Needs.{needs}
 use native.Mathlib.Omega.{arith}
 use Prim.Native.Nat.{_-_}
 use lib.ListN.{length}
-use Rattle.grammar.specs.Runs.{lineAt}
-use Rattle.grammar.specs.Shapes.{shapeOf}
+use Rattle.grammar.specs.Laws.Runs.{lineAt}
+use Rattle.grammar.specs.Reading.Shapes.{shapeOf}
 use Rattle.sources.specs.Texts.{reading}
 use Rattle.syntax.specs.Rows.{entry-small}
 use Rattle.syntax.specs.Passes.{Passing, begins, kind-below, goes-forward, refused, ends, sticks, goes-on}

@@ -1,6 +1,6 @@
 -- The table is that of the rules.
 use mathlib.Core.Path.{refl}
-use Rattle.grammar.specs.Shapes.{rows}
+use Rattle.grammar.specs.Reading.Shapes.{rows}
 use Rattle.syntax.proofs.table.Statement.{statement}
 use Rattle.syntax.proofs.table.Tie as tie
 

@@ -6,7 +6,7 @@ use native.Mathlib.Omega.{arith}
 use lib.ListN.{length}
 use borrow.Author.Needs.{needs}
 use Rattle.common.specs.AddressSets.{pairsAt}
-use Rattle.rules.specs.CompartmentLaws.{insert-twice}
+use Rattle.rules.specs.Laws.CompartmentLaws.{insert-twice}
 use Rattle.rules.specs.Compartments.{insert}
 use Rattle.rules.specs.Step.{joined}
 use Rattle.address_sets.specs.SetLaws.{pairOf}

@@ -5,7 +5,7 @@ use Prim.Native.Nat.{_-_, _+_}
 use native.Mathlib.Omega.{arith}
 use borrow.Author.Tests.{eq-eqb, ne-eqb}
 use lib.ListN.{length, drop}
-use Rattle.grammar.specs.Runs.{lineEnd, leading}
+use Rattle.grammar.specs.Laws.Runs.{lineEnd, leading}
 use Rattle.tokens.specs.Reading.{no-feed, line-run, run-turn, run-stops, run-past}
 use Rattle.tokens.proofs.line_end.Statement.{statement}
 use Rattle.tokens.proofs.line_end.Tie as tie

@@ -3,8 +3,8 @@ use mathlib.Core.Path.{_≡_, refl, sym, _∙_}
 use Prim.Native.Nat.{_-_}
 use native.Mathlib.Omega.{arith}
 use lib.ListN.{length}
-use Rattle.grammar.specs.Runs.{nameAt}
-use Rattle.grammar.specs.Lexer.{same}
+use Rattle.grammar.specs.Laws.Runs.{nameAt}
+use Rattle.grammar.specs.Reading.Lexer.{same}
 use Rattle.tokens.specs.Names.{names-end, names-differ, names-agree, second-within, names-past}
 use Rattle.tokens.proofs.same_name.Statement.{statement}
 use Rattle.tokens.proofs.same_name.Tie as tie

@@ -4,8 +4,8 @@ use Prim.Native.Nat.{_+_, _-_, _≤_}
 use native.Mathlib.Omega.{arith}
 use borrow.Author.Needs.{needs}
 use lib.ListN.{length, take}
-use Rattle.sources.specs.PlaceLaws.{line-end-within}
-use Rattle.sources.specs.Walks.{Walked, walk-starts}
+use Rattle.sources.specs.Laws.PlaceLaws.{line-end-within}
+use Rattle.sources.specs.Laws.Walks.{Walked, walk-starts}
 use Rattle.assembler.specs.EmitLaws.{kept-within}
 use Rattle.assembler.specs.Emits.{emit-ends, emit-refuses, emit-goes}
 use Rattle.assembler.proofs.emit.emit.Statement.{statement}

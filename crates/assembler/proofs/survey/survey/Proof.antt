@@ -3,7 +3,7 @@ use Prim.Native.Nat.{_+_, _-_, _≤_}
 use native.Mathlib.Omega.{arith}
 use borrow.Author.Needs.{needs}
 use lib.ListN.{length}
-use Rattle.sources.specs.PlaceLaws.{line-end-within}
+use Rattle.sources.specs.Laws.PlaceLaws.{line-end-within}
 use Rattle.labels.specs.LineLaws.{held-small}
 use Rattle.assembler.specs.Surveys.{Surveying, survey-starts, survey-ends, survey-full, survey-goes}
 use Rattle.assembler.proofs.survey.survey.Statement.{statement}

@@ -2,7 +2,7 @@
 use borrow.Author.Needs.{needs}
 use mathlib.Core.Path.{sym}
 use Rattle.rules.specs.Compartments.{member}
-use Rattle.rules.specs.CompartmentLaws.{member-high}
+use Rattle.rules.specs.Laws.CompartmentLaws.{member-high}
 use Rattle.compartments.proofs.Set.contains.Statement.{statement}
 use Rattle.compartments.proofs.Set.contains.Tie as tie
 

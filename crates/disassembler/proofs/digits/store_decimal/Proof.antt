@@ -1,6 +1,6 @@
 -- The digits of a number, as many as it has.
 use native.Mathlib.Omega.{arith}
-use Rattle.sources.specs.ListingDigits.{length-decimal}
+use Rattle.sources.specs.Listings.ListingDigits.{length-decimal}
 use Rattle.disassembler.specs.Stores.{decimal-stored}
 use borrow.Author.Needs.{needs}
 use Rattle.disassembler.proofs.digits.store_decimal.Statement.{statement}

@@ -1,7 +1,7 @@
 -- Two bytes, and eight digits behind them.
 use native.Mathlib.Omega.{arith}
 use lib.ListN.{length-set}
-use Rattle.grammar.specs.Digits.{digits}
+use Rattle.grammar.specs.Laws.Digits.{digits}
 use Rattle.disassembler.specs.Stores.{stored-two, stored-length}
 use borrow.Author.Needs.{needs}
 use Rattle.disassembler.proofs.digits.store_number.Statement.{statement}

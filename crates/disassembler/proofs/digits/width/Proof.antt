@@ -3,7 +3,7 @@ use mathlib.Core.Path.{_≡_}
 use Prim.Native.Nat.{_+_}
 use native.Mathlib.Omega.{arith}
 use Rattle.sources.specs.Listing.{width}
-use Rattle.sources.specs.ListingDigits.{width-one, width-more, width-most}
+use Rattle.sources.specs.Listings.ListingDigits.{width-one, width-more, width-most}
 use Rattle.disassembler.proofs.digits.width.Statement.{statement}
 use Rattle.disassembler.proofs.digits.width.Tie as tie
 

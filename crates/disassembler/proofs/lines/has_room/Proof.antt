@@ -3,7 +3,7 @@ use mathlib.Core.Path.{_≡_}
 use Prim.Native.Nat.{_-_, _≤_}
 use native.Mathlib.Omega.{arith}
 use lib.ListN.{length, take}
-use Rattle.sources.specs.ListingLengths.{listing-fits}
+use Rattle.sources.specs.Listings.ListingLengths.{listing-fits}
 use Rattle.sources.specs.Listing.{listing}
 use Rattle.disassembler.specs.Lines.{length-more, line-room, ample, measured}
 use Rattle.disassembler.proofs.lines.has_room.Statement.{statement}

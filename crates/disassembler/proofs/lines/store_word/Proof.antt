@@ -3,8 +3,8 @@ use mathlib.Core.Path.{ap}
 use native.Mathlib.Omega.{arith}
 use lib.ListN.{length, length-append}
 use Rattle.instructions.specs.Promises.{decoded}
-use Rattle.sources.specs.ListingDigits.{length-digits}
-use Rattle.sources.specs.ListingRows.{name}
+use Rattle.sources.specs.Listings.ListingDigits.{length-digits}
+use Rattle.sources.specs.Listings.ListingRows.{name}
 use Rattle.sources.specs.Listing.{operands}
 use Rattle.disassembler.specs.Stores.{stored-then}
 use Rattle.disassembler.specs.Lines.{word-number, word-instruction, fields-small}

@@ -1,6 +1,6 @@
 -- Sixteen bytes are room for every word.
 use native.Mathlib.Omega.{arith}
-use Rattle.sources.specs.ListingLengths.{word-fits}
+use Rattle.sources.specs.Listings.ListingLengths.{word-fits}
 use borrow.Author.Needs.{needs}
 use Rattle.disassembler.proofs.lines.word_length.Statement.{statement}
 use Rattle.disassembler.proofs.lines.word_length.Tie as tie

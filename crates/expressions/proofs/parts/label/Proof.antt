@@ -1,5 +1,5 @@
 -- A label is where it was located, or unknown.
-use Rattle.grammar.specs.Runs.{nameAt}
+use Rattle.grammar.specs.Laws.Runs.{nameAt}
 use Rattle.labels.specs.Locating.{located}
 use Rattle.expressions.specs.Reading.{named-there, named-none}
 use borrow.Author.Needs.{needs}

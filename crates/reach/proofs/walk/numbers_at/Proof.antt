@@ -3,7 +3,7 @@ use mathlib.Core.Path.{sym, _∙_}
 use borrow.Author.Needs.{needs}
 use borrow.Author.Tests.{le-ltb, lt-ltb, not-true, not-false}
 use Rattle.rules.specs.State.{jumpersAt, inMemory}
-use Rattle.common.specs.ServiceLaws.{service-range}
+use Rattle.common.specs.Laws.ServiceLaws.{service-range}
 use Rattle.reach.proofs.walk.numbers_at.Statement.{statement}
 use Rattle.reach.proofs.walk.numbers_at.Tie as tie
 

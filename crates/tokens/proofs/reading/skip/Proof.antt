@@ -4,7 +4,7 @@ use Prim.Native.Nat.{_-_, _+_}
 use native.Mathlib.Omega.{arith}
 use borrow.Author.Tests.{not-true, not-false}
 use lib.ListN.{length, drop}
-use Rattle.grammar.specs.Runs.{leading}
+use Rattle.grammar.specs.Laws.Runs.{leading}
 use Rattle.grammar.specs.Spelling.{blank}
 use Rattle.tokens.specs.Reading.{run-turn, run-stops, run-past}
 use Rattle.tokens.specs.Streams.{skipped}

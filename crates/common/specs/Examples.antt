@@ -1,0 +1,2 @@
+-- The folder Examples: the shared definitions by example.
+pub mod InstructionExamples

@@ -1,0 +1,2 @@
+-- The folder Examples: lines by computation.
+pub mod Samples

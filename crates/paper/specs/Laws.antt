@@ -1,0 +1,3 @@
+-- The folder Laws: what holds of the abstract machine, for its theorems to cite.
+pub mod CompLaws
+pub mod RunLaws

@@ -1,0 +1,7 @@
+-- The folder Laws: what holds of the rules, for the theorems and the code to cite.
+pub mod CompartmentLaws
+pub mod FormLaws
+pub mod Passed
+pub mod StepLaws
+pub mod TagLaws
+pub mod JoinLaws

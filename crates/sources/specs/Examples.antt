@@ -1,0 +1,3 @@
+-- The folder Examples: whole texts and listings by computation.
+pub mod Samples
+pub mod ListingSamples
