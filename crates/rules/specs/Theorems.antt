@@ -3,8 +3,10 @@ pub mod Stays
 pub mod Refusals
 pub mod Additive
 pub mod Counted
+pub mod Unread
 pub mod Sheet
 pub mod Numbers
+pub mod Worded
 pub mod ImageNumbers
 pub mod Grows
 pub mod Rest

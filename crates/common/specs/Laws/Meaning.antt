@@ -144,3 +144,8 @@ pub good-free : (words : List ℕ) (n : ℕ) (reads : ℕ → Bool) (q : ℕ) �
     → goodSet words n reads q ≡ (inside words n q && ordered (setAt words q))
 unfolding goodSet
 good-free words n reads q h = simp (at-all reads (suc (2 * getD words q 0)) q (λ y l u. h y), and-true)
+
+-- a good set's pairs are in order
+pub good-ordered : (words : List ℕ) (n : ℕ) (reads : ℕ → Bool) (q : ℕ) → goodSet words n reads q ≡ true → ordered (setAt words q) ≡ true
+unfolding goodSet
+good-ordered words n reads q h = both (inside words n q) _ (both (inside words n q && ordered (setAt words q)) _ h .0) .1

@@ -40,7 +40,7 @@ module _ (m : Bool) where
   unfolding serviceAt isServiceNumber
   service-number x h =
       let r : (isolate ≤ x) × (x < isolate + serviceCount m) = service-range x h in
-      simp (le-leb 1 (x - 4095) (omega arith), le-leb (x - 4095) (serviceCount m) (omega arith))
+      simp (le-leb 1 (x - (isolate - 1)) (omega arith), le-leb (x - (isolate - 1)) (serviceCount m) (omega arith))
 
   pub service-small : (x : ℕ) → isService m x ≡ true → serviceAt x ≤ serviceCount m
   unfolding isServiceNumber

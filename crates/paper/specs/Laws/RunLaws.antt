@@ -12,7 +12,8 @@ use Rattle.common.specs.Laws.CheckLaws.{cond-same}
 use Rattle.common.specs.Laws.InstructionLaws.{words-length}
 use Rattle.common.specs.Services.{isolate, add-jump-target, add-store-target}
 use Rattle.common.specs.Laws.Tests.{clash}
-use Rattle.paper.specs.Abstract.{State, A-of, R-of, inMemory, reads, instructionAt, storeVerdict, loadVerdict, instructionVerdict, wordVerdict, ranInstruction, isolateVerdict, addVerdict, serviceVerdict, described, isolated, jumpAdded, storeAdded, readAdded, ranService, verdict, commit, step, Ran, oneMore, ended, run}
+use Rattle.paper.specs.Abstract.{State, A-of, R-of, inMemory, reads, instructionAt, ranInstruction, described, isolated, jumpAdded, storeAdded, readAdded, ranService, verdict, commit, step, Ran, oneMore, ended, run}
+use Rattle.paper.specs.Laws.Tested.{storeVerdict, loadVerdict, instructionVerdict, wordVerdict, isolateVerdict, addVerdict, serviceVerdict, tested, verdict-tested}
 use Rattle.paper.specs.Laws.CompLaws.{split-length}
 
 -- ---- answers
@@ -30,8 +31,8 @@ through : (t : ℕ → Bool) (b : Bool) (x y : ℕ) → t (cond b x y) ≡ cond 
 through t true x y = refl
 through t false x y = refl
 
-passes-all : (a : State) (t : ℕ → Bool) → ((v : ℕ) → v ≤ 12 → t v ≡ true) → ((c x : ℕ) → t (loadVerdict a c x) ≡ true) → t (verdict a) ≡ true
-unfolding verdict wordVerdict instructionVerdict storeVerdict serviceVerdict isolateVerdict addVerdict
+passes-all : (a : State) (t : ℕ → Bool) → ((v : ℕ) → v ≤ 12 → t v ≡ true) → ((c x : ℕ) → t (loadVerdict a c x) ≡ true) → t (tested a) ≡ true
+unfolding tested wordVerdict instructionVerdict storeVerdict serviceVerdict isolateVerdict addVerdict
 passes-all a t h l =
     simp (
       through t,
@@ -59,7 +60,9 @@ fence false true c = refl
 
 pub abstract-answers : (a : State) → given (a .fenced) (verdict a) ≡ true
 unfolding loadVerdict reads
-abstract-answers a = passes-all a (given (a .fenced)) (λ v h. simp (le-leb v 12 h)) (λ c x. fence (a .fenced) (inMemory a x) (A-of a c x || R-of a c x))
+abstract-answers a =
+    subst (λ (v : ℕ). given (a .fenced) v ≡ true) (sym (verdict-tested a))
+    (passes-all a (given (a .fenced)) (λ v h. simp (le-leb v 12 h)) (λ c x. fence (a .fenced) (inMemory a x) (A-of a c x || R-of a c x)))
 
 -- ---- a run, one step after the other
 

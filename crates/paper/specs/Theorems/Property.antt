@@ -16,7 +16,8 @@ use Rattle.common.specs.Instructions.{reg, wordsAfter}
 use Rattle.common.specs.Services.{isolate, add-jump-target, add-store-target}
 use Rattle.common.specs.Laws.CheckLaws.{took}
 use Rattle.common.specs.Laws.Tests.{both}
-use Rattle.paper.specs.Abstract.{Comp, State, comp, A-of, J-of, S-of, R-of, inMemory, reads, loadVerdict, current, arrives, instructionAt, target, storeVerdict, instructionVerdict, wordVerdict, ranInstruction, moreJ, moreS, moreR, described, isolated, jumpAdded, storeAdded, readAdded, ranService, verdict, commit, step}
+use Rattle.paper.specs.Abstract.{Comp, State, comp, A-of, J-of, S-of, R-of, inMemory, reads, current, arrives, instructionAt, target, ranInstruction, moreJ, moreS, moreR, described, isolated, jumpAdded, storeAdded, readAdded, ranService, verdict, commit, step}
+use Rattle.paper.specs.Laws.Tested.{loadVerdict, storeVerdict, instructionVerdict, wordVerdict, tested, verdict-tested}
 use Rattle.paper.specs.Laws.CompLaws.{holder-holds, changed-other, split-other}
 use Rattle.paper.specs.Theorems.Sound.{defined, Sound, Runs, runs, other}
 
@@ -24,14 +25,14 @@ use Rattle.paper.specs.Theorems.Sound.{defined, Sound, Runs, runs, other
 
 -- a state that stops neither for want of a place nor at arrival: pc is in the previous compartment or its jump targets
 arrived : (b : State) → (verdict b ≡ answer.no-place) ⊎ ((verdict b ≡ answer.no-arrival) ⊎ ((A-of b (b .prev) (b .pc) || J-of b (b .prev) (b .pc)) ≡ true))
-unfolding verdict arrives
+unfolding tested arrives
 arrived b = go (defined b (b .pc)) (ltb (current b) (length (b .comps))) (eqb (current b) (b .prev)) (b .jumped && J-of b (b .prev) (b .pc)) refl refl refl refl
   where
     go : (d l e j : Bool) → defined b (b .pc) ≡ d → ltb (current b) (length (b .comps)) ≡ l → eqb (current b) (b .prev) ≡ e → (b .jumped && J-of b (b .prev) (b .pc)) ≡ j
         → (verdict b ≡ answer.no-place) ⊎ ((verdict b ≡ answer.no-arrival) ⊎ ((A-of b (b .prev) (b .pc) || J-of b (b .prev) (b .pc)) ≡ true))
-    go false l e j hd hl he hj = inl (simp hd)
-    go true false e j hd hl he hj = inr (inl (simp (hd, hl)))
-    go true true false false hd hl he hj = inr (inl (simp (hd, hl, he, hj)))
+    go false l e j hd hl he hj = inl (verdict-tested b ∙ simp hd)
+    go true false e j hd hl he hj = inr (inl (verdict-tested b ∙ simp (hd, hl)))
+    go true true false false hd hl he hj = inr (inl (verdict-tested b ∙ simp (hd, hl, he, hj)))
     go true true true j hd hl he hj =
         let h : A-of b (b .prev) (b .pc) ≡ true = subst (λ (c : ℕ). A-of b c (b .pc) ≡ true) (eqb-true _ _ he) (holder-holds (b .comps) (b .pc) (ltb-true _ _ hl)) in
         inr (inr (simp h))

@@ -18,7 +18,8 @@ use Rattle.common.specs.AddressSets.{isEmpty, within}
 use Rattle.common.specs.Laws.AddressSetLaws.{within-at}
 use Rattle.common.specs.Laws.CheckLaws.{took, passed}
 use Rattle.common.specs.Laws.Tests.{both, clash, bool-ext}
-use Rattle.paper.specs.Abstract.{Comp, State, comp, A-of, inMemory, initialComps, initial, current, arrives, instructionAt, wordVerdict, ranInstruction, setA, goodSets, setsWithin, returns, isolateVerdict, addVerdict, serviceVerdict, returned, moreJ, moreS, moreR, split, described, isolated, jumpAdded, storeAdded, readAdded, ranService, verdict, commit, step, run}
+use Rattle.paper.specs.Abstract.{Comp, State, comp, A-of, inMemory, initialComps, initial, current, arrives, instructionAt, ranInstruction, setA, goodSets, setsWithin, returns, returned, moreJ, moreS, moreR, split, described, isolated, jumpAdded, storeAdded, readAdded, ranService, verdict, commit, step, run}
+use Rattle.paper.specs.Laws.Tested.{wordVerdict, isolateVerdict, addVerdict, serviceVerdict, tested, verdict-tested}
 use Rattle.paper.specs.Laws.CompLaws.{comp-none, holder-holds, changed-kept, split-length, split-gone, split-stays, service-comps, at-service}
 use Rattle.paper.specs.Laws.RunLaws.{run-keeps}
 
@@ -48,9 +49,9 @@ pub record Runs (a : State) : Type 0 where
   pub rest : cond (inMemory a (a .pc)) (wordVerdict a (current a) (instructionAt a)) (serviceVerdict a (a .prev)) ≡ answer.done
 
 pub runs : (a : State) → verdict a ≡ answer.done → Runs a
-unfolding verdict arrives
+unfolding tested arrives
 runs a h =
-    let t = took (defined a (a .pc)) _ 1 h in
+    let t = took (defined a (a .pc)) _ 1 (sym (verdict-tested a) ∙ h) in
     let u = took (arrives a) _ 3 (t .1) in
     let v = both (ltb (current a) (length (a .comps))) _ (u .0) in
     record { there = ltb-true _ _ (v .0); service = λ e. simp e at (t .0); rest = u .1 }

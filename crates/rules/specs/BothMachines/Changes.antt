@@ -16,7 +16,8 @@ use Rattle.common.specs.Services.{isolate, add-jump-target, add-store-target}
 use Rattle.common.specs.Laws.Tests.{both}
 use Rattle.paper.specs.Abstract as paper
 use Rattle.rules.specs.State.{State, inMemory, hasOwner, ownerAt, owns, mayStore}
-use Rattle.rules.specs.Checks.{instructionAt, target, wordVerdict, verdict}
+use Rattle.rules.specs.Checks.{instructionAt, verdict}
+use Rattle.rules.specs.Laws.Tested.{target, wordVerdict}
 use Rattle.rules.specs.Step.{ranInstruction, isolated, jumpAdded, storeAdded, readAdded, ranService, commit, step}
 use Rattle.rules.specs.BothMachines.Match.{Match, Inv, shadow, is-shadow}
 use Rattle.rules.specs.BothMachines.Verdicts.{current-is}

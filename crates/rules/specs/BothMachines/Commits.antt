@@ -16,7 +16,7 @@ use Rattle.paper.specs.Abstract as paper
 use Rattle.paper.specs.Laws.CompLaws.{changed-test, changed-kept}
 use Rattle.rules.specs.Compartments.{numbers, member, empty}
 use Rattle.rules.specs.State.{State, inMemory, hasOwner, ownerAt, jumpersAt, writersAt, readersAt, owns, mayJump, mayStore, mayRead}
-use Rattle.rules.specs.Checks.{wordVerdict}
+use Rattle.rules.specs.Laws.Tested.{wordVerdict}
 use Rattle.rules.specs.Step.{ranInstruction, returned, joinAt, jumpAdded, storeAdded, readAdded}
 use Rattle.rules.specs.Laws.FormLaws.{Lent, lent-memories, numbers-good}
 use Rattle.rules.specs.Laws.Passed.{Passes, load-inside, Adds}

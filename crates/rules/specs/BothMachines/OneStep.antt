@@ -15,7 +15,8 @@ use Rattle.paper.specs.Abstract as paper
 use Rattle.paper.specs.Laws.RunLaws.{abstract-answers, not-thirteen, isolated-more}
 use Rattle.rules.specs.Compartments.{numbers}
 use Rattle.rules.specs.State.{State, inMemory}
-use Rattle.rules.specs.Checks.{instructionAt, serviceVerdict, verdict}
+use Rattle.rules.specs.Checks.{instructionAt, verdict}
+use Rattle.rules.specs.Laws.Tested.{serviceVerdict}
 use Rattle.rules.specs.Step.{ranService, commit, step}
 use Rattle.rules.specs.BothMachines.Match.{Match, Inv, shadow, is-shadow}
 use Rattle.rules.specs.BothMachines.Verdicts.{memory-is, word-is, last, parted, verdict-is}

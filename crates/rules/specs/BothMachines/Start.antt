@@ -9,17 +9,19 @@ use lib.Dec.{ltb, leb, eqb}
 use lib.ListN.{getD, length, drop, replicate, length-append, length-drop, length-replicate, getD-replicate}
 use lib.Seq.{take-append-seam}
 use Rattle.common.specs.Answers as answer
+use Rattle.common.specs.Tables.{firstOf}
 use Rattle.common.specs.Services.{isolate, serviceCount, isService, serviceAt, isServiceNumber}
 use Rattle.common.specs.Laws.ServiceLaws.{service-count, service-range, no-service}
 use Rattle.common.specs.Laws.Tests.{both, bool-ext}
 use Rattle.common.specs.Laws.CheckLaws.{needs, eqb-cond, cond-same}
 use Rattle.paper.specs.Abstract as paper
 use Rattle.paper.specs.Laws.CompLaws.{service-comps, at-service}
-use Rattle.rules.specs.Compartments.{member, empty, services, main}
+use Rattle.rules.specs.Compartments.{member, empty, serviceNumbers, mainAlone}
 use Rattle.rules.specs.Laws.CompartmentLaws.{member-empty, member-services, member-main}
 use Rattle.rules.specs.State.{State, firstNumber, serviceRoom, inMemory, hasOwner, ownerAt, jumpersAt, writersAt, readersAt, owns, mayJump, mayStore, mayRead}
-use Rattle.rules.specs.Checks.{sameLengths, seated, formed}
-use Rattle.rules.specs.Images.{fields, sizeIn, entryIn, entryVerdict, registersVerdict, imageVerdict, wordsOf, regsOf, over, loaded, loadVerdict, load}
+use Rattle.rules.specs.Laws.Tested.{sameLengths, seated, formed}
+use Rattle.rules.specs.Images.{fields, sizeIn, entryIn, entryChecks, registerChecks, imageChecks, loadChecks, wordsOf, regsOf, over, loaded, loadVerdict, load}
+use Rattle.rules.specs.Laws.TestedRows.{lengths-row}
 use Rattle.rules.specs.Laws.FormLaws.{Sized, same-lengths, sized-is, Numbered, numbered-is}
 use Rattle.rules.specs.Laws.TagLaws.{filled}
 use Rattle.rules.specs.BothMachines.Match.{Match, Inv}
@@ -46,10 +48,10 @@ words-are bytes = fields-length bytes (sizeIn bytes) 4
 
 module _ (m : Bool) (bytes : List ℕ) (old : State) (ok : load m bytes old .answer ≡ answer.done) where
   pub accepted : Accepted m (wordsOf bytes) (entryIn bytes) old
-  unfolding load loadVerdict imageVerdict registersVerdict entryVerdict
+  unfolding load loadVerdict loadChecks imageChecks registerChecks entryChecks firstOf
   accepted =
       let n : length (wordsOf bytes) ≡ sizeIn bytes = words-are bytes in
-      let lengths = same-lengths m old (needs (sameLengths m old) (loadVerdict m bytes old) (λ e. simp e) ok) in
+      let lengths = same-lengths m old (needs (sameLengths m old) (loadVerdict m bytes old) (λ e. simp (lengths-row, e)) ok) in
       let sizes = both _ _ (needs (leb 1 (sizeIn bytes) && leb (sizeIn bytes) 2048) (loadVerdict m bytes old) (λ e. simp (e, eqb-cond, cond-same)) ok) in
       record {
         some = rw n (leb-true _ _ (sizes .0));
@@ -82,33 +84,33 @@ unfolding serviceAt
 not-main m x = go (isService m x) refl
   where
     go : (b : Bool) → isService m x ≡ b → (b && eqb (serviceAt x) 0) ≡ false
-    go true e = let r : (isolate ≤ x) × (x < isolate + serviceCount m) = service-range m x e in ne-eqb (x - 4095) 0 (λ q. omega arith)
+    go true e = let r : (isolate ≤ x) × (x < isolate + serviceCount m) = service-range m x e in ne-eqb (x - (isolate - 1)) 0 (λ q. omega arith)
     go false e = refl
 
 same-service : (m : Bool) (x j : ℕ) → (ltb j (serviceCount m) && eqb x (isolate + j)) ≡ (isService m x && eqb (serviceAt x) (suc j))
 unfolding serviceAt isService
 same-service m x j =
-    bool-ext (ltb j (serviceCount m) && eqb x (isolate + j)) (isService m x && eqb (x - 4095) (suc j))
+    bool-ext (ltb j (serviceCount m) && eqb x (isolate + j)) (isService m x && eqb (x - (isolate - 1)) (suc j))
     (λ h. let t = both (ltb j (serviceCount m)) (eqb x (isolate + j)) h in
     let l : j < serviceCount m = ltb-true _ _ (t .0) in
     let e : x ≡ isolate + j = eqb-true _ _ (t .1) in
-    simp (le-leb isolate x (omega arith), lt-ltb x (isolate + serviceCount m) (omega arith), eq-eqb (x - 4095) (suc j) (omega arith)))
-    (λ h. let t = both (isService m x) (eqb (x - 4095) (suc j)) h in
+    simp (le-leb isolate x (omega arith), lt-ltb x (isolate + serviceCount m) (omega arith), eq-eqb (x - (isolate - 1)) (suc j) (omega arith)))
+    (λ h. let t = both (isService m x) (eqb (x - (isolate - 1)) (suc j)) h in
     let r : (isolate ≤ x) × (x < isolate + serviceCount m) = service-range m x (t .0) in
-    let e : x - 4095 ≡ suc j = eqb-true _ _ (t .1) in
+    let e : x - (isolate - 1) ≡ suc j = eqb-true _ _ (t .1) in
     simp (lt-ltb j (serviceCount m) (omega arith), eq-eqb x (isolate + j) (omega arith)))
 
 -- 1 to the number of services
-services-are : (m : Bool) (j : ℕ) → member (services m) (suc j) ≡ ltb j (serviceCount m)
+services-are : (m : Bool) (j : ℕ) → member (serviceNumbers m) (suc j) ≡ ltb j (serviceCount m)
 unfolding isServiceNumber
 services-are m j = member-services m (suc j) ∙ simp (le-leb 1 (suc j) (omega arith))
 
 -- each service's set is {0}
-main-there : (m : Bool) (x : ℕ) → isService m x ≡ true → getD (replicate serviceRoom main) (x - isolate) empty ≡ main
+main-there : (m : Bool) (x : ℕ) → isService m x ≡ true → getD (replicate serviceRoom mainAlone) (x - isolate) empty ≡ mainAlone
 main-there m x f =
     let r : (isolate ≤ x) × (x < isolate + serviceCount m) = service-range m x f in
     let k = service-count m in
-    getD-replicate serviceRoom (x - isolate) main empty (omega (arith, k .1))
+    getD-replicate serviceRoom (x - isolate) mainAlone empty (omega (arith, k .1))
 
 -- ---- the start
 
@@ -143,10 +145,10 @@ module _ (m : Bool) (words regs : List ℕ) (entry : ℕ) (old : State) (ok : Ac
     where
       go : (b p : Bool) → ltb x n ≡ b → isService m x ≡ p → (c : ℕ) → paper.comp (paper.initialComps m n) c .J x ≡ mayJump start c x
       go true p e f zero =
-          simp (e, word-plain x (ltb-true _ _ e), filled n (services m) (old .jumpers) x (ltb-true _ _ e), member-services)
+          simp (e, word-plain x (ltb-true _ _ e), filled n (serviceNumbers m) (old .jumpers) x (ltb-true _ _ e), member-services)
       go true p e f (suc j) =
           at-service m n j (λ k. k .J x) refl
-          ∙ simp (e, and-true, filled n (services m) (old .jumpers) x (ltb-true _ _ e)) (sym (services-are m j))
+          ∙ simp (e, and-true, filled n (serviceNumbers m) (old .jumpers) x (ltb-true _ _ e)) (sym (services-are m j))
       go false true e f zero = simp (e, f, main-there m x f, member-main)
       go false true e f (suc j) =
           at-service m n j (λ k. k .J x) refl ∙ simp (e, f, and-false, main-there m x f) (sym (member-main (suc j) ∙ ne-eqb (suc j) 0 (λ z. omega arith)))
@@ -206,7 +208,7 @@ module _ (m : Bool) (words regs : List ℕ) (entry : ℕ) (old : State) (ok : Ac
         lent =
             record {
               owners = all 0 (old .owners) (ok .owners);
-              jumpers = all (services m) (old .jumpers) (ok .jumpers);
+              jumpers = all (serviceNumbers m) (old .jumpers) (ok .jumpers);
               writers = all empty (old .writers) (ok .writers);
               readers = λ e. simp e (all empty (old .readers) (ok .readers e));
               enough = omega arith;

@@ -17,9 +17,12 @@ use Rattle.common.specs.Laws.AddressSetLaws.{good-take, good-set-take}
 use Rattle.common.specs.Laws.Tests.{both}
 use Rattle.paper.specs.Abstract as paper
 use Rattle.paper.specs.Laws.CompLaws.{holder-is}
+use Rattle.paper.specs.Laws.Tested as abstract
 use Rattle.rules.specs.Compartments.{numbers}
 use Rattle.rules.specs.State.{State, inMemory, hasOwner, ownerAt, owns, reads}
-use Rattle.rules.specs.Checks.{badOwner, arrives, instructionAt, storeVerdict, loadVerdict, instructionVerdict, wordVerdict, setA, setJ, setS, setR, goodIn, goodSets, setsWithin, returns, isolateVerdict, addVerdict, serviceVerdict, verdict}
+use Rattle.rules.specs.Checks.{instructionAt, setA, setJ, setS, setR, verdict, goodIn, goodSets, setsWithin, returns}
+use Rattle.rules.specs.Laws.Tested.{badOwner, arrives, storeVerdict, loadVerdict, instructionVerdict, wordVerdict, isolateVerdict, addVerdict, serviceVerdict, tested}
+use Rattle.rules.specs.Laws.TestedRows.{verdict-tested}
 use Rattle.rules.specs.Laws.FormLaws.{lent-memories, n-most, service-below, at-service}
 use Rattle.rules.specs.BothMachines.Match.{Match, Inv, shadow}
 
@@ -93,16 +96,16 @@ module _ (s : State) (C : List paper.Comp) (m : Match s (shadow s C)) (inv : Inv
   reads-is : (c : ℕ) → paper.reads a c ≡ reads s c
   reads-is c = fun-ext (read-is c)
 
-  instruction-is : (c : ℕ) (i : Decoded) → paper.wordVerdict a c i ≡ wordVerdict s c i
-  unfolding paper.wordVerdict paper.instructionVerdict paper.storeVerdict paper.loadVerdict wordVerdict instructionVerdict storeVerdict loadVerdict
+  instruction-is : (c : ℕ) (i : Decoded) → abstract.wordVerdict a c i ≡ wordVerdict s c i
+  unfolding abstract.wordVerdict abstract.instructionVerdict abstract.storeVerdict abstract.loadVerdict wordVerdict instructionVerdict storeVerdict loadVerdict
   instruction-is c i = simp (memory-is, m .A, m .S, read-is)
 
   pub word-is : inMemory s (s .cpu .pc) ≡ true → paper.instructionAt a ≡ instructionAt s
   unfolding paper.instructionAt instructionAt inMemory
   word-is h = ap decode (getD-take (s .cpu .n) (s .words) (s .cpu .pc) 0 (ltb-true _ _ h))
 
-  add-is : (c : ℕ) → paper.addVerdict a c ≡ addVerdict s c
-  unfolding paper.addVerdict addVerdict
+  add-is : (c : ℕ) → abstract.addVerdict a c ≡ addVerdict s c
+  unfolding abstract.addVerdict addVerdict
   add-is c = simp (m .A)
 
   good-is : (c : ℕ) → paper.goodSets a c ≡ goodSets s c
@@ -143,29 +146,31 @@ module _ (s : State) (C : List paper.Comp) (m : Match s (shadow s C)) (inv : Inv
   unfolding paper.returns returns
   returns-is r c = simp (r .A, memory-is, m .A)
 
-  isolate-is : (c : ℕ) → isolateVerdict s c ≡ parted (eqb (s .cpu .next) numbers) (paper.isolateVerdict a c)
-  unfolding paper.isolateVerdict isolateVerdict
+  isolate-is : (c : ℕ) → isolateVerdict s c ≡ parted (eqb (s .cpu .next) numbers) (abstract.isolateVerdict a c)
+  unfolding abstract.isolateVerdict isolateVerdict
   isolate-is c = go (goodSets s c) refl
     where
-      go : (b : Bool) → goodSets s c ≡ b → isolateVerdict s c ≡ parted (eqb (s .cpu .next) numbers) (paper.isolateVerdict a c)
+      go : (b : Bool) → goodSets s c ≡ b → isolateVerdict s c ≡ parted (eqb (s .cpu .next) numbers) (abstract.isolateVerdict a c)
       go true e =
           let r = sets-read c e in
           simp (good-is, e, r .A, within-is r c, returns-is r c) (isolate-cases (isEmpty (setA s)) (setsWithin s c) (returns s c) (eqb (s .cpu .next) numbers))
       go false e = simp (good-is, e)
 
-  service-is : (c : ℕ) → serviceVerdict s c ≡ parted (last s) (paper.serviceVerdict a c)
-  unfolding paper.serviceVerdict serviceVerdict
+  service-is : (c : ℕ) → serviceVerdict s c ≡ parted (last s) (abstract.serviceVerdict a c)
+  unfolding abstract.serviceVerdict serviceVerdict
   service-is c = go (eqb (s .cpu .pc) isolate)
     where
-      go : (b : Bool) → cond b (isolateVerdict s c) (addVerdict s c) ≡ parted (b && eqb (s .cpu .next) numbers) (cond b (paper.isolateVerdict a c) (paper.addVerdict a c))
+      go : (b : Bool) → cond b (isolateVerdict s c) (addVerdict s c) ≡ parted (b && eqb (s .cpu .next) numbers) (cond b (abstract.isolateVerdict a c) (abstract.addVerdict a c))
       go true = isolate-is c
-      go false = sym (add-is c) ∙ sym (parted-none (paper.addVerdict a c))
+      go false = sym (add-is c) ∙ sym (parted-none (abstract.addVerdict a c))
 
   pub verdict-is : verdict s ≡ parted (last s) (paper.verdict a)
-  unfolding verdict paper.verdict hasOwner inMemory
-  verdict-is = go (inMemory s (s .cpu .pc)) (isService (s .cpu .strict) (s .cpu .pc)) (arrives s) refl refl refl
+  unfolding tested abstract.tested hasOwner inMemory
+  verdict-is =
+      verdict-tested s ∙ go (inMemory s (s .cpu .pc)) (isService (s .cpu .strict) (s .cpu .pc)) (arrives s) refl refl refl
+      ∙ ap (parted (last s)) (sym (abstract.verdict-tested a))
     where
-      there : inMemory s (s .cpu .pc) ≡ true → arrives s ≡ true → verdict s ≡ parted (last s) (paper.verdict a)
+      there : inMemory s (s .cpu .pc) ≡ true → arrives s ≡ true → tested s ≡ parted (last s) (abstract.tested a)
       there e g =
           let k : paper.inMemory a (s .cpu .pc) ≡ true = memory-is (s .cpu .pc) ∙ e in
           let h : hasOwner s (s .cpu .pc) ≡ true = simp e in
@@ -175,7 +180,7 @@ module _ (s : State) (C : List paper.Comp) (m : Match s (shadow s C)) (inv : Inv
           simp (inv .formed, owner-good s inv, k, e, arrives-is h, g, current-is h, word-is e, instruction-is, ne)
           (sym (parted-none (wordVerdict s (ownerAt s (s .cpu .pc)) (instructionAt s))))
 
-      go : (b c d : Bool) → inMemory s (s .cpu .pc) ≡ b → isService (s .cpu .strict) (s .cpu .pc) ≡ c → arrives s ≡ d → verdict s ≡ parted (last s) (paper.verdict a)
+      go : (b c d : Bool) → inMemory s (s .cpu .pc) ≡ b → isService (s .cpu .strict) (s .cpu .pc) ≡ c → arrives s ≡ d → tested s ≡ parted (last s) (abstract.tested a)
       go true c false e f g =
           let k : paper.inMemory a (s .cpu .pc) ≡ true = memory-is (s .cpu .pc) ∙ e in
           let h : hasOwner s (s .cpu .pc) ≡ true = simp e in

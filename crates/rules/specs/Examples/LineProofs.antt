@@ -1,5 +1,5 @@
 -- The proof of the table of lines marked P: `lines`, one claim for all eight.
-use mathlib.Core.Path.{_≡_, refl, ap, _∙_, subst}
+use mathlib.Core.Path.{_≡_, refl, sym, ap, _∙_, subst}
 use mathlib.Core.Bool.{Bool, true, false, cond, or-true}
 use mathlib.Core.List.{List}
 use Prim.Native.Nat.{ℕ, suc, _≤_}
@@ -16,10 +16,12 @@ use Rattle.common.specs.Services.{isolate, serviceCount, isService, serviceAt, 
 use Rattle.common.specs.Laws.ServiceLaws.{service-count, is-service}
 use Rattle.common.specs.AddressSets.{isEmpty, inSet}
 use Rattle.common.specs.Laws.Tests.{clash}
-use Rattle.rules.specs.Compartments.{member, empty, services}
+use Rattle.rules.specs.Compartments.{member, empty, serviceNumbers}
 use Rattle.rules.specs.Laws.CompartmentLaws.{member-services, member-main}
 use Rattle.rules.specs.State.{State, firstNumber, inMemory, hasOwner, ownerAt, jumpersAt, writersAt, readersAt, owns, mayJump, mayStore, mayRead, reads}
-use Rattle.rules.specs.Checks.{sameLengths, sized, numbered, seated, formed, badOwner, arrives, instructionAt, instructionVerdict, wordVerdict, setA, setJ, goodSets, setsWithin, returns, isolateVerdict, serviceVerdict, verdict}
+use Rattle.rules.specs.Checks.{instructionAt, setA, setJ, verdict, goodSets, setsWithin, returns}
+use Rattle.rules.specs.Laws.Tested.{sameLengths, sized, numbered, seated, formed, badOwner, arrives, instructionVerdict, wordVerdict, isolateVerdict, serviceVerdict, tested}
+use Rattle.rules.specs.Laws.TestedRows.{verdict-tested, formed-if, if-formed, arrives-if, if-arrives, owner-row}
 use Rattle.rules.specs.Step.{ranInstruction, joined, isolated, ranService, commit, Stepped, step}
 use Rattle.rules.specs.Run.{run}
 use Rattle.rules.specs.Images.{loaded}
@@ -34,8 +36,9 @@ use Rattle.rules.specs.Examples.Lines.{Sum, At, Back, TagsAsLoaded, Call
 
 at-verdict : (s : State) (word : ℕ) → At s word → decode word .answer ≡ answer.done → instructionVerdict s (ownerAt s (s .cpu .pc)) (decode word) ≡ answer.done
     → verdict s ≡ answer.done
-unfolding verdict hasOwner wordVerdict instructionAt
-at-verdict s word h d o = simp (h .formed, h .memory, h .owner, h .arrives, h .there, d, o)
+unfolding tested hasOwner wordVerdict instructionAt
+at-verdict s word h d o =
+    verdict-tested s ∙ simp (formed-if s (h .formed), h .memory, sym (owner-row s) ∙ h .owner, arrives-if s (h .arrives), h .there, d, o)
 
 at-step : (s : State) (word : ℕ) → At s word → decode word .answer ≡ answer.done → instructionVerdict s (ownerAt s (s .cpu .pc)) (decode word) ≡ answer.done
     → step s ≡ record { answer = answer.done; state = ranInstruction s (ownerAt s (s .cpu .pc)) (decode word) }
@@ -60,8 +63,8 @@ sum s l a b = (
 -- ---- row 6
 
 no-place : (s : State) → formed s ≡ true → hasOwner s (s .cpu .pc) ≡ false → step s .answer ≡ answer.no-place
-unfolding verdict
-no-place s h o = answer-is s ∙ simp (h, o)
+unfolding tested
+no-place s h o = answer-is s ∙ verdict-tested s ∙ simp (h, o)
 
 back-pc : (regs : List ℕ) → (reg regs 1 ≡ 0 → ⊥) → pcAfter (decode 0x0C10FFFF) 0 regs ≡ 4294967295
 unfolding pcAfter decode row allowed branch offset displaced
@@ -90,7 +93,7 @@ back s h z r =
     let k = back-ready s (ownerAt s (s .cpu .pc)) in
     let e = at-step s 0x0C10FFFF h (k .0) (k .1) in
     let p : t .cpu .pc ≡ 4294967295 = ran-pc s _ _ ∙ ap (λ (x : ℕ). pcAfter (decode 0x0C10FFFF) x (s .cpu .regs)) z ∙ back-pc (s .cpu .regs) r in
-    let f : formed t ≡ true = subst (λ (o : Stepped). formed (o .state) ≡ true) e (step-formed s (h .formed)) in (
+    let f : formed t ≡ true = subst (λ (o : Stepped). formed (o .state) ≡ true) e (step-formed s (formed-if s (h .formed))) in (
       ap (λ (o : Stepped). o .answer) e,
       ap (λ (o : Stepped). o .state .cpu .pc) e ∙ p,
       ap (λ (o : Stepped). step (o .state) .answer) e ∙ no-place t f (nobody t f p),
@@ -106,15 +109,16 @@ isolate-outside s h e = outside s h (s .cpu .pc) (omega arith)
 
 called : (s : State) → Called s
     → verdict s ≡ cond (returns s (s .cpu .prev)) (cond (eqb (s .cpu .next) 64) answer.no-number answer.done) answer.no-return
-unfolding verdict hasOwner serviceVerdict isolateVerdict badOwner
+unfolding tested hasOwner serviceVerdict isolateVerdict badOwner
 called s h =
     let e : s .cpu .pc ≡ isolate = h .at in
-    let o = isolate-outside s (h .formed) e in
-    simp (h .formed, o, ap (isService (s .cpu .strict)) e ∙ here (s .cpu .strict), eq-eqb (s .cpu .pc) isolate e, h .arrives, h .good, h .some, h .within)
+    let f = formed-if s (h .formed) in
+    let o = isolate-outside s f e in
+    verdict-tested s ∙ simp (f, o, ap (isService (s .cpu .strict)) e ∙ here (s .cpu .strict), eq-eqb (s .cpu .pc) isolate e, arrives-if s (h .arrives), h .good, h .some, h .within)
 
 isolate-step : (s : State) → Called s → verdict s ≡ answer.done → step s ≡ record { answer = answer.done; state = isolated s }
 unfolding commit ranService
-isolate-step s h v = step-runs s v ∙ simp (isolate-outside s (h .formed) (h .at), eq-eqb (s .cpu .pc) isolate (h .at))
+isolate-step s h v = step-runs s v ∙ simp (isolate-outside s (formed-if s (h .formed)) (h .at), eq-eqb (s .cpu .pc) isolate (h .at))
 
 -- ---- row 7
 
@@ -124,7 +128,7 @@ unfolding loaded
 loaded-tags m words regs entry old =
     record {
       owners = filled (length words) 0 (old .owners);
-      jumpers = filled (length words) (services m) (old .jumpers);
+      jumpers = filled (length words) (serviceNumbers m) (old .jumpers);
       service = refl;
       next = refl;
     }
@@ -176,9 +180,9 @@ call-ready s h t g n i =
     let zero : ltb 0 (s .cpu .next) ≡ true = lt-ltb 0 (s .cpu .next) (omega arith) in
     let o : ltb isolate (s .cpu .n) ≡ false = le-ltb isolate (s .cpu .n) (omega arith) in
     record {
-      formed = simp (z, low, high, zero);
+      formed = if-formed (at-isolate s) (simp (z, low, high, zero));
       at = refl;
-      arrives = simp (o, here (s .cpu .strict), t .service, member-main 0, or-true);
+      arrives = if-arrives (at-isolate s) (simp (o, here (s .cpu .strict), t .service, member-main 0, or-true));
       good = g;
       some = n;
       within = i;
@@ -224,16 +228,17 @@ call : Call
 unfolding run firstNumber
 call s word k h d e t g n i a =
     let j = jump-step s word k h d e t in
-    let r = call-ready s (h .formed) t g n i in
+    let f = formed-if s (h .formed) in
+    let r = call-ready s f t g n i in
     let first : s .cpu .next ≡ suc (serviceCount (s .cpu .strict)) = t .next in
     let few : serviceCount (s .cpu .strict) ≤ 4 = service-count (s .cpu .strict) .1 in (
       λ z.
           let q : eqb (s .cpu .next) 64 ≡ false = ne-eqb (s .cpu .next) 64 (λ y. omega arith) in
-          let v : verdict (at-isolate s) ≡ answer.done = called (at-isolate s) r ∙ simp (call-back s (h .formed) t a z, q) in
+          let v : verdict (at-isolate s) ≡ answer.done = called (at-isolate s) r ∙ simp (call-back s f t a z, q) in
           let o = isolate-step (at-isolate s) r v in
-          (simp (j, o), simp (j, o), simp (j, o) (isolated-pc s ∙ z), simp (j, o) (call-arrives s (is-formed s (h .formed) .sized) t z)),
+          (simp (j, o), simp (j, o), simp (j, o) (isolated-pc s ∙ z), simp (j, o) (if-arrives _ (call-arrives s (is-formed s f .sized) t z))),
       λ z.
-          let v : verdict (at-isolate s) ≡ answer.no-return = called (at-isolate s) r ∙ simp (call-lost s (h .formed) z) in
+          let v : verdict (at-isolate s) ≡ answer.no-return = called (at-isolate s) r ∙ simp (call-lost s f z) in
           let o : step (at-isolate s) .answer ≡ answer.no-return = answer-is (at-isolate s) ∙ v in
           (simp (j, o), simp (j, o)),
     )

@@ -5,17 +5,18 @@ use mathlib.Core.List.{List, [], _∷_}
 use Prim.Native.Nat.{ℕ}
 use lib.ListN.{replicate, length}
 use Rattle.common.specs.Answers as answer
+use Rattle.common.specs.Tables.{firstOf}
 use Rattle.common.specs.Words.{row, allowed, decode}
 use Rattle.common.specs.Instructions.{bit, arithmetic, offset, displaced, branch, pcAfter, regsAfter, wordsAfter, jumps}
 use Rattle.common.specs.Services.{isolate, serviceCount, isService, serviceAt, isServiceNumber}
 use Rattle.common.specs.AddressSets.{pairsAt, setAt, inside, ordered, goodSet, isEmpty, inSet, allFrom, within}
 use Rattle.paper.specs.Abstract as paper
-use Rattle.rules.specs.Compartments.{member, insert, upTo, services, main}
+use Rattle.rules.specs.Compartments.{member, insert, upTo, serviceNumbers, mainAlone}
 use Rattle.rules.specs.State.{State, firstNumber, inMemory, hasOwner, ownerAt, jumpersAt, writersAt, readersAt, owns, mayJump, mayStore, mayRead, reads}
 use Rattle.rules.specs.Checks as checks
 use Rattle.rules.specs.Step as step
 use Rattle.rules.specs.Run.{Ran, run}
-use Rattle.rules.specs.Images.{field, fields, entryVerdict, lastListed, registersVerdict, imageVerdict, blank, loaded, notLoaded, loadVerdict, load, allBytes, section, listed, imageBytes}
+use Rattle.rules.specs.Images.{field, fields, entryChecks, lastZero, registerChecks, imageChecks, loadChecks, blank, loaded, notLoaded, loadVerdict, load, allBytes, section, listed, imageBytes}
 use Rattle.rules.specs.BothMachines.Agreement.{tagged, abstract}
 
 -- "The Store puts 7 over the Halt, and 00000007 does not decode"
@@ -126,7 +127,7 @@ pub record Samples : Type 0 where
   pub parts-strict : Stands true 542 image-many-strict (stands answer.no-number 541 isolate 0 1 64) (stands answer.done 542 10 1 1 65)
 
 pub samples : Samples
-unfolding seen paperSeen row allowed decode arithmetic offset displaced branch pcAfter regsAfter wordsAfter jumps serviceCount isService serviceAt isServiceNumber pairsAt setAt inside ordered goodSet isEmpty inSet allFrom within member insert upTo services main firstNumber inMemory hasOwner ownerAt jumpersAt writersAt readersAt owns mayJump mayStore mayRead reads checks.sameLengths checks.sized checks.numbered checks.seated checks.formed checks.badOwner checks.arrives checks.instructionAt checks.storeVerdict checks.loadVerdict checks.instructionVerdict checks.wordVerdict checks.goodSets checks.setsWithin checks.returns checks.isolateVerdict checks.addVerdict checks.serviceVerdict checks.verdict step.ranInstruction step.mapFrom step.owned step.joined step.joinedServices step.isolated step.jumpAdded step.storeAdded step.readAdded step.ranService step.commit step.step run field fields entryVerdict lastListed registersVerdict imageVerdict blank loaded notLoaded loadVerdict load allBytes section listed imageBytes paper.inMemory paper.reads paper.serviceComps paper.initialComps paper.initial paper.holder paper.arrives paper.instructionAt paper.storeVerdict paper.loadVerdict paper.instructionVerdict paper.wordVerdict paper.ranInstruction paper.goodSets paper.setsWithin paper.returns paper.isolateVerdict paper.addVerdict paper.serviceVerdict paper.isolated paper.jumpAdded paper.storeAdded paper.readAdded paper.ranService paper.verdict paper.commit paper.step paper.run
+unfolding seen paperSeen row allowed decode arithmetic offset displaced branch pcAfter regsAfter wordsAfter jumps serviceCount isService serviceAt isServiceNumber pairsAt setAt inside ordered goodSet isEmpty inSet allFrom within member insert upTo serviceNumbers mainAlone firstNumber inMemory hasOwner ownerAt jumpersAt writersAt readersAt owns mayJump mayStore mayRead reads checks.lengthsDiffer checks.badForm checks.noPlace checks.wrongOwner checks.noArrival checks.instructionAt checks.noInstruction checks.loadOutside checks.loadForbidden checks.storeOutside checks.storeForbidden checks.halts checks.goodSets checks.badSets checks.emptySet checks.setsWithin checks.notWithin checks.notOwned checks.returns checks.noReturn checks.noNumber checks.checks checks.verdict step.ranInstruction step.mapFrom step.owned step.joined step.joinedServices step.isolated step.jumpAdded step.storeAdded step.readAdded step.ranService step.commit step.step run field fields firstOf entryChecks lastZero registerChecks imageChecks loadChecks blank loaded notLoaded loadVerdict load allBytes section listed imageBytes paper.inMemory paper.reads paper.serviceComps paper.initialComps paper.initial paper.holder paper.arrives paper.instructionAt paper.ranInstruction paper.goodSets paper.setsWithin paper.returns paper.isolated paper.jumpAdded paper.storeAdded paper.readAdded paper.ranService paper.checks paper.verdict paper.commit paper.step paper.run
 samples =
     record {
       written = refl;

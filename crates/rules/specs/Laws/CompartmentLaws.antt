@@ -14,7 +14,7 @@ use lib.Pow.{pow-pos, pow-lt, pow-add, pow-mono}
 use Rattle.common.specs.Services.{serviceCount, isServiceNumber}
 use Rattle.common.specs.Laws.ServiceLaws.{service-count}
 use Rattle.common.specs.Laws.Tests.{bool-ext}
-use Rattle.rules.specs.Compartments.{numbers, member, insert, empty, upTo, services, main}
+use Rattle.rules.specs.Compartments.{numbers, member, insert, empty, upTo, serviceNumbers, mainAlone}
 
 -- ---- bits of a sum of bits
 
@@ -112,10 +112,10 @@ member-up-to (suc k) c h = member-insert (upTo k) (suc k) c h ∙ simp (member-u
         simp (ne-eqb c (suc k) e, or-false, same)
 
 -- the two sets that stand after loading
-pub member-services : (m : Bool) (c : ℕ) → member (services m) c ≡ isServiceNumber m c
-unfolding services isServiceNumber
+pub member-services : (m : Bool) (c : ℕ) → member (serviceNumbers m) c ≡ isServiceNumber m c
+unfolding serviceNumbers isServiceNumber
 member-services m c = let k = service-count m in member-up-to (serviceCount m) c (omega (arith, k .1))
 
-pub member-main : (c : ℕ) → member main c ≡ eqb c 0
-unfolding main
+pub member-main : (c : ℕ) → member mainAlone c ≡ eqb c 0
+unfolding mainAlone
 member-main c = simp (member-insert empty 0 c (lit< tt), member-empty c)

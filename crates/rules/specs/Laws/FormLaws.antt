@@ -10,7 +10,7 @@ use Rattle.common.specs.Laws.Tests.{both, clash}
 use Rattle.common.specs.Services.{serviceCount, isService, serviceAt, isServiceNumber}
 use Rattle.common.specs.Laws.ServiceLaws.{service-small}
 use Rattle.rules.specs.State.{State, firstNumber, inMemory, hasOwner, ownerAt}
-use Rattle.rules.specs.Checks.{sameLengths, sized, numbered, seated, formed, badOwner}
+use Rattle.rules.specs.Laws.Tested.{sameLengths, sized, numbered, seated, formed, badOwner}
 
 -- ---- the sizes
 

@@ -1,5 +1,5 @@
 -- What an answer of 0 says of the state before the step.
-use mathlib.Core.Path.{_≡_, refl, ap, _∙_}
+use mathlib.Core.Path.{_≡_, refl, sym, ap, _∙_}
 use mathlib.Core.Bool.{Bool, true, false, cond, _&&_, _||_, and-true}
 use Prim.Native.Nat.{ℕ, _≤_, _<_}
 use native.Mathlib.Omega.{arith}
@@ -16,8 +16,10 @@ use Rattle.common.specs.Laws.Tests.{both, clash}
 use Rattle.common.specs.Laws.CheckLaws.{took, passed, needs, eqb-cond, cond-same}
 use Rattle.rules.specs.Compartments.{numbers}
 use Rattle.rules.specs.State.{State, inMemory, hasOwner, ownerAt, owns, mayJump, mayStore, mayRead, reads}
-use Rattle.rules.specs.Checks.{seated, formed, badOwner, arrives, instructionAt, target, storeVerdict, loadVerdict, instructionVerdict, wordVerdict, setA, setJ, setS, setR, goodSets, setsWithin, returns, isolateVerdict, addVerdict, serviceVerdict, verdict}
+use Rattle.rules.specs.Checks.{instructionAt, setA, setJ, setS, setR, verdict, goodSets, setsWithin, returns}
+use Rattle.rules.specs.Laws.Tested.{seated, formed, badOwner, arrives, target, storeVerdict, loadVerdict, instructionVerdict, wordVerdict, isolateVerdict, addVerdict, serviceVerdict, tested}
 use Rattle.rules.specs.Laws.FormLaws.{is-formed, numbers-good, at-service}
+use Rattle.rules.specs.Laws.TestedRows.{verdict-tested}
 
 -- a step that runs passed 14, 2, 15 and 4, and then its word's or its service's own checks
 pub record Passes (s : State) : Type 0 where
@@ -28,9 +30,9 @@ pub record Passes (s : State) : Type 0 where
   pub rest : cond (inMemory s (s .cpu .pc)) (wordVerdict s (ownerAt s (s .cpu .pc)) (instructionAt s)) (serviceVerdict s (s .cpu .prev)) ≡ answer.done
 
 pub passes : (s : State) → verdict s ≡ answer.done → Passes s
-unfolding verdict
+unfolding tested
 passes s h =
-    let a = took (formed s) _ 13 h in
+    let a = took (formed s) _ 13 (sym (verdict-tested s) ∙ h) in
     let b = took (hasOwner s (s .cpu .pc)) _ 1 (a .1) in
     let c = passed (badOwner s) _ 14 (b .1) in
     let d = took (arrives s) _ 3 (c .1) in

@@ -8,7 +8,8 @@ use Rattle.common.specs.Answers as answer
 use Rattle.common.specs.Services.{isolate, add-jump-target, add-store-target}
 use Rattle.common.specs.Laws.ServiceLaws.{fourth-strict}
 use Rattle.rules.specs.State.{State, inMemory, ownerAt}
-use Rattle.rules.specs.Checks.{instructionAt, wordVerdict, serviceVerdict, verdict}
+use Rattle.rules.specs.Checks.{instructionAt, verdict}
+use Rattle.rules.specs.Laws.Tested.{wordVerdict, serviceVerdict}
 use Rattle.rules.specs.Step.{ranInstruction, isolated, jumpAdded, storeAdded, readAdded, ranService, commit, step}
 use Rattle.rules.specs.Run.{oneMore, ended, run}
 use Rattle.rules.specs.Laws.FormLaws.{at-service}

@@ -16,7 +16,9 @@ use Rattle.common.specs.AddressSets.{setAt, goodSet}
 use Rattle.common.specs.Laws.AddressSetLaws.{good-take, good-set-take}
 use Rattle.common.specs.Laws.Tests.{both}
 use Rattle.rules.specs.State.{Processor, State, inMemory, hasOwner, ownerAt, jumpersAt, writersAt, readersAt, owns, mayJump, mayStore, mayRead, reads}
-use Rattle.rules.specs.Checks.{numbered, seated, formed, badOwner, arrives, instructionAt, storeVerdict, loadVerdict, instructionVerdict, wordVerdict, setA, setJ, setS, setR, goodIn, goodSets, setsWithin, returns, isolateVerdict, addVerdict, serviceVerdict, verdict}
+use Rattle.rules.specs.Checks.{instructionAt, setA, setJ, setS, setR, verdict, goodIn, goodSets, setsWithin, returns}
+use Rattle.rules.specs.Laws.Tested.{numbered, seated, formed, badOwner, arrives, storeVerdict, loadVerdict, instructionVerdict, wordVerdict, isolateVerdict, addVerdict, serviceVerdict, tested}
+use Rattle.rules.specs.Laws.TestedRows.{verdict-tested}
 use Rattle.rules.specs.Step.{ranInstruction, mapFrom, owned, joined, isolated, jumpAdded, storeAdded, readAdded, ranService, commit, step}
 use Rattle.rules.specs.Run.{Ran, run}
 use Rattle.rules.specs.Laws.FormLaws.{Lent, sized-lent}
@@ -154,10 +156,10 @@ module _ (u : Processor) (w o j r d w′ o′ j′ r′ d′ : List ℕ) where
         go false e = simp (← good-sets-eq, e)
 
     verdict-eq : verdict s ≡ verdict t
-    unfolding verdict hasOwner inMemory serviceVerdict
-    verdict-eq = go (ltb (u .pc) (u .n)) refl
+    unfolding tested hasOwner inMemory serviceVerdict
+    verdict-eq = verdict-tested s ∙ go (ltb (u .pc) (u .n)) refl ∙ sym (verdict-tested t)
       where
-        go : (b : Bool) → ltb (u .pc) (u .n) ≡ b → verdict s ≡ verdict t
+        go : (b : Bool) → ltb (u .pc) (u .n) ≡ b → tested s ≡ tested t
         go true e = simp (e, formed-eq, bad-eq, arrives-eq, owner-eq, instruction-eq e, word-eq)
         go false e = simp (e, formed-eq, bad-eq, arrives-eq, isolate-eq, add-eq)
 

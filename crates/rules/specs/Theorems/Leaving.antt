@@ -8,7 +8,8 @@ use Rattle.common.specs.Opcodes as is
 use Rattle.common.specs.Words.{Decoded}
 use Rattle.common.specs.Instructions.{jumps}
 use Rattle.rules.specs.State.{State, inMemory, ownerAt}
-use Rattle.rules.specs.Checks.{arrives, instructionAt}
+use Rattle.rules.specs.Checks.{instructionAt}
+use Rattle.rules.specs.Laws.Tested.{arrives}
 use Rattle.rules.specs.Step.{Stepped, ranInstruction, commit, step}
 use Rattle.rules.specs.Laws.StepLaws.{answer-is, step-runs}
 

@@ -14,7 +14,8 @@ use Rattle.common.specs.Laws.AddressSetLaws.{within-at}
 use Rattle.common.specs.Laws.Tests.{both}
 use Rattle.rules.specs.Compartments.{empty}
 use Rattle.rules.specs.State.{State, inMemory, ownerAt, readersAt, owns, mayRead, reads}
-use Rattle.rules.specs.Checks.{instructionAt, target, setR}
+use Rattle.rules.specs.Checks.{instructionAt, setR}
+use Rattle.rules.specs.Laws.Tested.{target}
 use Rattle.rules.specs.Step.{ranInstruction, jumpAdded, storeAdded, readAdded, step}
 use Rattle.rules.specs.Laws.FormLaws.{lent-memories, numbers-good}
 use Rattle.rules.specs.Laws.Passed.{Passes, passes, load-passed, Adds}

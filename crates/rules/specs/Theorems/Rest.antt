@@ -16,7 +16,8 @@ use Rattle.common.specs.Laws.InstructionLaws.{words-length}
 use Rattle.common.specs.AddressSets.{Pair}
 use Rattle.common.specs.Laws.Tests.{clash}
 use Rattle.rules.specs.State.{State, inMemory}
-use Rattle.rules.specs.Checks.{sameLengths, sized, target, wordVerdict, setR}
+use Rattle.rules.specs.Checks.{setR}
+use Rattle.rules.specs.Laws.Tested.{sameLengths, sized, target, wordVerdict}
 use Rattle.rules.specs.Step.{ranInstruction, owned, joined, joinAt, isolated, jumpAdded, storeAdded, readAdded, step}
 use Rattle.rules.specs.Run.{run}
 use Rattle.rules.specs.Laws.FormLaws.{Lent}

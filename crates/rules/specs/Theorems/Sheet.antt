@@ -1,38 +1,32 @@
--- The sheet's mode is the sheet's machine: what the mode decides, spelled for that mode, and the readers neither looked at nor changed.
+-- The sheet's mode is the sheet's machine: what the mode decides, spelled for that mode.
 use mathlib.Core.Path.{_≡_, refl}
 use mathlib.Core.Bool.{Bool, true, false, cond, _&&_, and-true}
-use mathlib.Core.List.{List, []}
+use mathlib.Core.List.{[]}
 use Prim.Native.Nat.{ℕ}
-use lib.Dec.{ltb, leb, eqb}
+use lib.Dec.{ltb, leb}
 use lib.ListN.{drop}
 use Rattle.common.specs.Answers as answer
 use Rattle.common.specs.Instructions.{reg}
 use Rattle.common.specs.Services.{serviceCount, isService, isServiceNumber}
 use Rattle.common.specs.AddressSets.{setAt, inside, ordered}
 use Rattle.common.specs.Laws.Meaning.{good-free}
-use Rattle.common.specs.Laws.Tests.{clash}
-use Rattle.rules.specs.Compartments.{insert, empty, upTo, services}
+use Rattle.rules.specs.Compartments.{insert, empty, upTo, serviceNumbers}
 use Rattle.rules.specs.State.{State, firstNumber, inMemory, reads}
-use Rattle.rules.specs.Checks.{setR, goodIn, goodSets, loadVerdict}
+use Rattle.rules.specs.Checks.{setR, goodIn, goodSets}
+use Rattle.rules.specs.Laws.Tested.{loadVerdict}
 use Rattle.rules.specs.Step.{ranInstruction, jumpAdded, storeAdded, readAdded, step}
-use Rattle.rules.specs.Run.{run}
-use Rattle.rules.specs.Images.{wordsOf, regsOf, entryIn, loaded, notLoaded, load}
-use Rattle.rules.specs.Images as images
 use Rattle.rules.specs.Laws.StepLaws.{step-cases}
 use Rattle.rules.specs.BothMachines.ReadTags.{no-more-sets}
-use Rattle.rules.specs.Laws.FormLaws.{Lent}
-use Rattle.rules.specs.Theorems.Rest.{step-keeps-rest, run-keeps-rest}
-use Rattle.rules.specs.Theorems.Alike.{AlikeRuns, run-alike}
 
 pub record Numbers : Type 0 where
   pub count : serviceCount false ≡ 3
   pub first : firstNumber false ≡ 4
-  pub set : services false ≡ insert (insert (insert empty 1) 2) 3
+  pub set : serviceNumbers false ≡ insert (insert (insert empty 1) 2) 3
   pub place : (x : ℕ) → isService false x ≡ (leb 4096 x && ltb x 4099)
   pub number : (c : ℕ) → isServiceNumber false c ≡ (leb 1 c && leb c 3)
 
 pub numbers : Numbers
-unfolding serviceCount firstNumber services upTo isService isServiceNumber
+unfolding serviceCount firstNumber serviceNumbers upTo isService isServiceNumber
 numbers = record { count = refl; first = refl; set = refl; place = λ x. refl; number = λ c. refl }
 
 -- in either mode no set past the services' changes: in the sheet's mode not the fourth
@@ -41,15 +35,6 @@ unfolding ranInstruction jumpAdded storeAdded readAdded
 step-more-sets s =
     step-cases s (λ (t : State). drop (serviceCount (s .cpu .strict)) (t .cpu .services) ≡ drop (serviceCount (s .cpu .strict)) (s .cpu .services)) refl
     (λ p m v. refl) (λ p m is. no-more-sets s p m is) (λ p m a. (refl, refl, λ z. refl))
-
--- nor does loading change the fifth memory
-pub load-fifth : (bytes : List ℕ) (old : State) → load false bytes old .state .readers ≡ old .readers
-unfolding load loaded notLoaded
-load-fifth bytes old = go (eqb (images.loadVerdict false bytes old) answer.done)
-  where
-    go : (b : Bool) → cond b (loaded false (wordsOf bytes) (regsOf bytes) (entryIn bytes) old) (notLoaded false old) .readers ≡ old .readers
-    go true = refl
-    go false = refl
 
 module _ (s : State) (e : s .cpu .strict ≡ false) where
   -- "Reading is free to all"
@@ -73,20 +58,3 @@ module _ (s : State) (e : s .cpu .strict ≡ false) where
 
   pub fourth : setR s ≡ []
   fourth = simp e
-
-  -- the fifth memory is not changed
-  pub step-fifth : step s .state .readers ≡ s .readers
-  step-fifth = step-keeps-rest s .fifth e
-
-  pub run-fifth : (k : ℕ) → run k s .state .readers ≡ s .readers
-  run-fifth k = run-keeps-rest k s .fifth e
-
-  -- nor looked at: with any other in its place, of any length, a run gives the same
-  abbrev pub instead : List ℕ → State
-  instead readers = record { cpu = s .cpu; words = s .words; owners = s .owners; jumpers = s .jumpers; writers = s .writers; readers = readers }
-
-  pub run-unread : Lent s → (readers : List ℕ) (k : ℕ) → AlikeRuns (run k s) (run k (instead readers))
-  run-unread l readers k =
-      run-alike k s (instead readers) l
-      (record { owners = l .owners; jumpers = l .jumpers; writers = l .writers; readers = λ z. clash z e; enough = l .enough })
-      (record { cpu = refl; words = refl; owners = refl; jumpers = refl; writers = refl; readers = λ z. clash z e })
