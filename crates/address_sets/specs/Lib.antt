@@ -1,3 +1,2 @@
--- ---- laws of sets of addresses, and the promises
+-- ---- laws of sets of addresses
 pub mod SetLaws
-pub mod Promises

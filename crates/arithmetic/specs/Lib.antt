@@ -1,4 +1,3 @@
--- ---- the results of the arithmetic instructions and of a branch, for any numbers; their laws and promises
+-- ---- the results of the arithmetic instructions and of a branch, for any numbers; their laws
 pub mod Targets
 pub mod ResultLaws
-pub mod Promises

@@ -11,7 +11,7 @@ use Rattle.sources.specs.Meaning as meant
 use Rattle.sources.specs.Meaning.{Meaning, says, refused, imageOf, noRegisters, meaning, assemble}
 use Rattle.assembler.specs.declared.emit.Emitted.{Emitted}
 use Rattle.assembler.specs.Emit.{emittedOf}
-use Rattle.assembler.specs.Promises.{assembledOf}
+use Rattle.assembler.specs.Views.{assembledOf}
 
 module _ (text words out : List ℕ) (e : Emitted) (h : emittedOf e words ≡ meaning text) where
   pub text-refused : e .answer ≢ answer.done → assembledOf (record { answer = e .answer; line = e .line; length = 0 }) out ≡ assemble text out

@@ -9,7 +9,7 @@ use Rattle.common.specs.Answers as answer
 use Rattle.common.specs.Words as told
 use Rattle.common.specs.Words.{encode}
 use Rattle.instructions.specs.declared.Encoded.{Encoded}
-use Rattle.instructions.specs.Promises.{encoded}
+use Rattle.instructions.specs.Views.{encoded}
 use Rattle.sources.specs.Labels.{Site}
 use Rattle.tokens.specs.declared.Taken.{Taken}
 use Rattle.tokens.specs.Streams.{tokenAt}

@@ -1,5 +1,5 @@
 -- ---- what an assembly promises
-pub mod Promises
+pub mod Views
 -- ---- the first pass
 pub mod Survey
 pub mod Surveys

@@ -5,7 +5,7 @@ mod word;
 
 ghost use mathlib.Core.Path.{_≡_};
 ghost use Rattle.sources.specs.Meaning.{assemble};
-ghost use Rattle.assembler.specs.Promises.{assembledOf};
+ghost use Rattle.assembler.specs.Views.{assembledOf};
 use label_table::SIZE;
 
 // Answer 0, line 0 and the length of the image; or a refusal, the line at fault counted from 1 (0 for 21 and 31), and length 0.

@@ -1,3 +1,2 @@
--- ---- laws of the sets of compartment numbers, and their promises
+-- ---- laws of the sets of compartment numbers
 pub mod CountLaws
-pub mod Promises

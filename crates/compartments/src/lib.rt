@@ -1,6 +1,6 @@
 // Sets of compartment numbers 0 to 63, each one 64-bit number with a bit per compartment.
 ghost use mathlib.Core.Path.{_≡_};
-ghost use Rattle.rules.specs.Compartments.{member, insert, empty, services, size, lowest};
+ghost use Rattle.rules.specs.Compartments.{member, insert, empty, serviceNumbers, size, lowest};
 
 pub struct Set(pub u64);
 
@@ -22,7 +22,7 @@ impl Set {
 
     // The set of the services' numbers.
     pub fn of_services(strict: bool) -> Set
-        ensures { λ r. ⌜ r .0 ≡ services strict ⌝ }
+        ensures { λ r. ⌜ r .0 ≡ serviceNumbers strict ⌝ }
     {
         if strict {
             Set::SERVICES_STRICT

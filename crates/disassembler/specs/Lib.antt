@@ -1,5 +1,5 @@
 -- ---- laws of writing a listing, and what the disassembler promises
-pub mod Promises
+pub mod Views
 pub mod Stores
 pub mod Names
 pub mod Operands

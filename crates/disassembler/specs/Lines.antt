@@ -11,7 +11,7 @@ use lib.ListN.{length, getD, set, take, drop, length-append, take-append-drop}
 use lib.Seq.{take-suc, take-all}
 use Rattle.common.specs.Words.{Decoded, decode}
 use Rattle.common.specs.Laws.WordLaws.{decoded-small}
-use Rattle.sources.specs.Texts.{feed}
+use Rattle.numerals.specs.Bytes.{feed}
 use Rattle.sources.specs.Listing.{operands, numberText, wordText, listing}
 use Rattle.sources.specs.Listings.ListingRows.{name}
 use Rattle.sources.specs.Listings.ListingLengths.{listing-fits}

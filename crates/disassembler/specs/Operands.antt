@@ -8,8 +8,9 @@ use Prim.Native.Nat.{ℕ, _-_, _<_, _≤_}
 use native.Mathlib.Omega.{arith}
 use borrow.Author.Tests.{lt-ltb, le-ltb, le-leb, lt-leb, eq-eqb, ne-eqb, eqb-false}
 use Rattle.common.specs.Words.{Decoded}
-use Rattle.grammar.specs.Bytes.{bytes}
-use Rattle.sources.specs.Listing.{decimal, blank, registerText, offsetText, operands}
+use Rattle.numerals.specs.Bytes.{bytes}
+use Rattle.numerals.specs.Numerals.{decimal}
+use Rattle.sources.specs.Listing.{blank, registerText, offsetText, operands}
 
 pub offset-forward : (low : ℕ) → low < 32768 → offsetText low ≡ decimal low
 unfolding offsetText

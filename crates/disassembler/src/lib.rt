@@ -6,7 +6,7 @@ mod operands;
 
 ghost use mathlib.Core.Path.{_≡_};
 ghost use Rattle.sources.specs.Listing.{listVerdict, disassemble};
-ghost use Rattle.disassembler.specs.Promises.{listedOf};
+ghost use Rattle.disassembler.specs.Views.{listedOf};
 use crate::lines::has_room;
 use crate::lines::store_listing;
 

@@ -22,12 +22,8 @@ fn store_part(out: &mut [u8], at: usize, text: &[u8], first: usize, n: usize) ->
     requires { ⌜ (first + n ≤ length (now text)) × (at + n ≤ length (now out)) ⌝ }
     ensures { λ r. ⌜ Stored (now (out .entry)) at (take n (drop first (now (text .entry)))) (now (out .exit)) r ⌝ }
 {
-    let mut i = 0;
-    while i < n {
-        out[at + i] = text[first + i];
-        i += 1;
-    }
-    at + n
+    let end = first + n;
+    text::put_text(out, at, &text[first..end])
 }
 
 // Stores the mnemonic of an opcode. Each takes five bytes of one text.

@@ -2,9 +2,10 @@
 ghost use mathlib.Core.List.{_++_};
 ghost use Prim.Native.Nat.{_+_, _<_, _≤_};
 ghost use lib.ListN.{length};
-ghost use Rattle.grammar.specs.Bytes.{bytes};
-ghost use Rattle.sources.specs.Listing.{decimal, blank, registerText, offsetText, operands};
-ghost use Rattle.instructions.specs.Promises.{decoded};
+ghost use Rattle.numerals.specs.Bytes.{bytes};
+ghost use Rattle.numerals.specs.Numerals.{decimal};
+ghost use Rattle.sources.specs.Listing.{blank, registerText, offsetText, operands};
+ghost use Rattle.instructions.specs.Views.{decoded};
 ghost use Rattle.disassembler.specs.Stores.{Stored};
 use crate::digits::store_decimal;
 use instructions::Decoded;

@@ -4,10 +4,9 @@ use mathlib.Core.Bool.{Bool, _&&_, _||_, not, and-assoc}
 use Prim.Native.Nat.{ℕ}
 use lib.Dec.{ltb, leb, eqb}
 use lib.ListN.{length}
-use Rattle.common.specs.Promise.{once, itself}
 use Rattle.common.specs.Services.{isService, isServiceNumber}
 use Rattle.rules.specs.State.{State, firstNumber}
-use Rattle.rules.specs.Checks.{sameLengths, sized, numbered, seated, formed}
+use Rattle.rules.specs.Laws.Tested.{sameLengths, sized, numbered, seated, formed}
 
 abbrev pub lengthsBy : Bool → ℕ → ℕ → ℕ → ℕ → ℕ → Bool
 lengthsBy strict words owners jumpers writers readers = eqb owners words && eqb jumpers words && eqb writers words && (not strict || eqb readers words)
@@ -41,13 +40,3 @@ lengths-by strict s = refl
 pub formed-by : (s : State) → formed s ≡ formOf s
 unfolding formed sized sameLengths numbered seated formedBy
 formed-by s = simp and-assoc
-
--- ---- two outcomes of a promise are equal
-
-pub same-lengths-once : (strict : Bool) (words owners jumpers writers readers : ℕ) (r q : Bool) → r ≡ lengthsBy strict words owners jumpers writers readers
-    → q ≡ lengthsBy strict words owners jumpers writers readers → r ≡ q
-same-lengths-once strict words owners jumpers writers readers r q = once itself (lengthsBy strict words owners jumpers writers readers) r q
-
-pub is-formed-once : (strict : Bool) (n pc prev next words owners jumpers writers readers : ℕ) (r q : Bool)
-    → r ≡ formedBy strict n pc prev next words owners jumpers writers readers → q ≡ formedBy strict n pc prev next words owners jumpers writers readers → r ≡ q
-is-formed-once strict n pc prev next words owners jumpers writers readers r q = once itself (formedBy strict n pc prev next words owners jumpers writers readers) r q

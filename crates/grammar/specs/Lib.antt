@@ -2,7 +2,6 @@
 pub mod Tokens
 pub mod Trees
 pub mod Grammar
-pub mod Bytes
 pub mod Spelling
 pub mod Sources
 -- ---- what is proved of it

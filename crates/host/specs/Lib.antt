@@ -1,2 +1,2 @@
 -- ---- what the calls for C promise
-pub mod Promises
+pub mod Views

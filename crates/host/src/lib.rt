@@ -9,8 +9,8 @@ ghost use Rattle.rules.specs.Counts.{ownedCount, jumpCount, storeCount, widest}
 ghost use Rattle.sources.specs.Meaning.{assemble};
 ghost use Rattle.sources.specs.Listing.{disassemble};
 ghost use Rattle.machine.specs.Views.{stateOf};
-ghost use Rattle.loader.specs.Promises.{lent};
-ghost use Rattle.host.specs.Promises.{loadedBy, steppedBy, ranBy, decodedBy, laidOut, encodedBy, writtenBy, assembledBy};
+ghost use Rattle.loader.specs.Views.{lent};
+ghost use Rattle.host.specs.Views.{loadedBy, steppedBy, ranBy, decodedBy, laidOut, encodedBy, writtenBy, assembledBy};
 use machine::Processor;
 
 // Loads an image over whatever the record held, for a run in a mode; a refused load leaves the blank record of that mode.

@@ -3,7 +3,7 @@ ghost use mathlib.Core.Path.{_≡_};
 ghost use Rattle.common.specs.Words.{allowed, opOf, aOf, bOf, lowOf, pack, decode, encode};
 ghost use Rattle.instructions.specs.Masks.{usedOf, fitsIn, fieldsOf};
 ghost use Rattle.instructions.specs.Packing.{hasRoom, Room};
-ghost use Rattle.instructions.specs.Promises.{decoded, encoded};
+ghost use Rattle.instructions.specs.Views.{decoded, standing, encoded};
 
 // The bits of each field below the opcode; RD is the register in the lowest 4 bits of the low 16.
 const A: u32 = 0xF00000;
@@ -35,6 +35,14 @@ const USED: [u32; 14] = [
 // A word's opcode and fields with answer 0, or answer 3 and zeros.
 pub struct Decoded {
     pub answer: u32,
+    pub op: u32,
+    pub a: u32,
+    pub b: u32,
+    pub low: u32,
+}
+
+// A word's opcode and fields as they stand: no answer, as nobody asked whether it is an instruction.
+pub struct Standing {
     pub op: u32,
     pub a: u32,
     pub b: u32,
@@ -79,11 +87,10 @@ pub fn fits(word: u32, op: u32) -> bool
 }
 
 // The opcode and the fields of a word as they stand, whether it is an instruction or not.
-pub fn fields(word: u32) -> Decoded
-    ensures { λ r. ⌜ decoded r ≡ fieldsOf word ⌝ }
+pub fn fields(word: u32) -> Standing
+    ensures { λ r. ⌜ standing r ≡ fieldsOf word ⌝ }
 {
-    Decoded {
-        answer: answers::DONE,
+    Standing {
         op: word / 16777216,
         a: word / 1048576 % 16,
         b: word / 65536 % 16,
@@ -131,7 +138,14 @@ pub fn decode(word: u32) -> Decoded
             low: 0,
         };
     }
-    fields(word)
+    let i = fields(word);
+    Decoded {
+        answer: answers::DONE,
+        op: i.op,
+        a: i.a,
+        b: i.b,
+        low: i.low,
+    }
 }
 
 // The word with these fields.

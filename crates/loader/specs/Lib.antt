@@ -1,3 +1,3 @@
 -- ---- laws of loading an image, and what the loader promises
 pub mod Loading
-pub mod Promises
+pub mod Views

@@ -9,16 +9,18 @@ use lib.Dec.{eqb}
 use lib.ListN.{length, set, replicate, length-set}
 use Rattle.common.specs.Answers as answer
 use Rattle.common.specs.Laws.CheckLaws.{cond-same}
-use Rattle.rules.specs.Compartments.{empty, services}
+use Rattle.common.specs.Tables.{firstOf}
+use Rattle.rules.specs.Compartments.{empty, serviceNumbers}
 use Rattle.rules.specs.State.{Processor, State}
-use Rattle.rules.specs.Checks.{sameLengths}
-use Rattle.rules.specs.Images.{fields, sizeIn, entryIn, regsOf, loadVerdict, fresh, blank, over, loaded, notLoaded, load}
+use Rattle.rules.specs.Laws.Tested.{sameLengths}
+use Rattle.rules.specs.Laws.TestedRows.{lengths-row}
+use Rattle.rules.specs.Images.{fields, sizeIn, entryIn, regsOf, imageVerdict, loadChecks, loadVerdict, fresh, blank, over, loaded, notLoaded, load}
 use Rattle.images.specs.Accepted.{load-accepted}
 use Rattle.images.specs.Filling.{length-fields, replicate-more}
 use Rattle.form.specs.Form.{lengthsBy}
 use Rattle.reader.specs.declared.Image.{Image}
-use Rattle.reader.specs.Promises.{imageOf}
-use Rattle.loader.specs.Promises.{lent}
+use Rattle.reader.specs.Views.{imageOf}
+use Rattle.loader.specs.Views.{lent}
 
 abbrev refused : ℕ → Image
 refused v = record { answer = v; size = 0; regs = replicate 16 0; entry = 0 }
@@ -72,14 +74,14 @@ module _ (strict : Bool) (bytes words owners jumpers writers readers : List ℕ)
   old = lent words owners jumpers writers readers
 
   image-is : image ≡ cond (eqb (loadVerdict strict bytes old) 0) (record { answer = 0; size = sizeIn bytes; regs = regsOf bytes; entry = entryIn bytes }) (refused (loadVerdict strict bytes old))
-  unfolding imageFor imageOf loadVerdict sameLengths
+  unfolding imageFor imageOf loadVerdict loadChecks imageVerdict sameLengths firstOf
   image-is = i ∙ go (sameLengths strict old) refl
     where
       go : (t : Bool) → sameLengths strict old ≡ t
           → imageFor strict bytes (length words) (length owners) (length jumpers) (length writers) (length readers)
           ≡ cond (eqb (loadVerdict strict bytes old) 0) (record { answer = 0; size = sizeIn bytes; regs = regsOf bytes; entry = entryIn bytes }) (refused (loadVerdict strict bytes old))
-      go true q = simp q
-      go false q = simp q
+      go true q = simp (lengths-row, q)
+      go false q = simp (lengths-row, q)
 
   pub ready : Ready strict bytes words owners jumpers writers readers (image .size)
   unfolding load
@@ -115,7 +117,7 @@ module _ (strict : Bool) (bytes words owners jumpers writers readers : List ℕ)
 
   pub loads : (words′ owners′ jumpers′ writers′ readers′ : List ℕ) (j w : ℕ)
       → words′ ≡ over (fields bytes 4 (image .size)) words → owners′ ≡ over (replicate (image .size) 0) owners
-      → j ≡ services strict → jumpers′ ≡ over (replicate (image .size) j) jumpers
+      → j ≡ serviceNumbers strict → jumpers′ ≡ over (replicate (image .size) j) jumpers
       → w ≡ empty → writers′ ≡ over (replicate (image .size) w) writers
       → (k : ℕ) → k ≡ cond strict (image .size) 0 → readers′ ≡ over (replicate k w) readers
       → (cpu : Processor) → cpu ≡ fresh strict (image .size) (image .regs) (image .entry)

@@ -6,7 +6,7 @@ ghost use mathlib.Core.Bool.{cond};
 ghost use Rattle.rules.specs.Images.{load, fresh};
 ghost use Rattle.machine.specs.Views.{cpuOf};
 ghost use Rattle.loader.specs.Loading.{imageFor};
-ghost use Rattle.loader.specs.Promises.{loadedOf, lent};
+ghost use Rattle.loader.specs.Views.{loadedOf, lent};
 use crate::filling::fill_owners;
 use crate::filling::fill_sets;
 use crate::filling::fill_words;

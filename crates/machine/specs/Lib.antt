@@ -1,4 +1,3 @@
--- ---- the record as a state, laws of the run, and the promises
+-- ---- the record as a state, laws of the run
 pub mod Views
 pub mod RunLaws
-pub mod Promises

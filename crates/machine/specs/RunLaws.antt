@@ -11,7 +11,9 @@ use lib.Dec.{eqb}
 use lib.ListN.{length}
 use Rattle.common.specs.Answers as answer
 use Rattle.rules.specs.State.{State}
-use Rattle.rules.specs.Checks.{formed, verdict}
+use Rattle.rules.specs.Checks.{verdict}
+use Rattle.rules.specs.Laws.Tested.{formed, tested}
+use Rattle.rules.specs.Laws.TestedRows.{verdict-tested}
 use Rattle.rules.specs.Step.{Stepped, step}
 use Rattle.rules.specs.Run.{Ran, run}
 use Rattle.rules.specs.Laws.StepLaws.{run-goes-on, run-ends}
@@ -90,10 +92,11 @@ module _ (budget : ℕ) (s : State) where
 
   module _ (t : Bool) (e : t ≡ formOf s) where
     pub unformed : budget ≢ 0 → not t ≡ true → record { answer = answer.bad-form; state = s; count = 0 } ≡ run budget s
-    unfolding step verdict
+    unfolding step tested
     unformed b h =
         let f : formed s ≡ false = formed-by s ∙ sym e ∙ not-true t h in
-        let v : step s ≡ record { answer = answer.bad-form; state = s } = simp f in
+        let z : verdict s ≡ answer.bad-form = verdict-tested s ∙ simp f in
+        let v : step s ≡ record { answer = answer.bad-form; state = s } = simp z in
         let z : step s .answer ≡ answer.bad-form = ap (λ (o : Stepped). o .answer) v in
         sym (begins budget s ∙ ends budget 0 s (omega arith) (λ k. omega arith) ∙ ap (λ (o : Stepped). record { answer = o .answer; state = o .state; count = 0 }) v)
 

@@ -1,3 +1,2 @@
--- ---- what is written, and what the calls promise
+-- ---- what is written
 pub mod Places
-pub mod Promises

@@ -11,7 +11,8 @@ use Rattle.common.specs.Instructions.{reg}
 use Rattle.common.specs.AddressSets.{Pair, setAt, isEmpty}
 use Rattle.rules.specs.Compartments.{numbers}
 use Rattle.rules.specs.State.{State, inMemory, hasOwner, ownerAt, jumpersAt, writersAt, readersAt, owns, mayJump, mayStore, mayRead, reads}
-use Rattle.rules.specs.Checks.{setA, setJ, setS, goodSets, setsWithin, returns, isolateVerdict, addVerdict}
+use Rattle.rules.specs.Checks.{setA, setJ, setS, goodSets, setsWithin, returns}
+use Rattle.rules.specs.Laws.Tested.{isolateVerdict, addVerdict}
 use Rattle.rules.specs.Step.{owned, joined, joinedServices, joinAt}
 use Rattle.address_sets.specs.SetLaws.{empty-count}
 use Rattle.reach.specs.Called.{called, asked}

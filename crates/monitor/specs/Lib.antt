@@ -1,4 +1,3 @@
--- ---- outcomes of the services, their laws, and the promises
+-- ---- outcomes of the services, their laws
 pub mod Outcomes
 pub mod CallLaws
-pub mod Promises

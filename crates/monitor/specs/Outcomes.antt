@@ -6,7 +6,8 @@ use lib.Dec.{eqb}
 use Rattle.common.specs.Answers as answer
 use Rattle.common.specs.Instructions.{reg}
 use Rattle.rules.specs.State.{State}
-use Rattle.rules.specs.Checks.{setA, setJ, setS, setR, isolateVerdict, addVerdict}
+use Rattle.rules.specs.Checks.{setA, setJ, setS, setR}
+use Rattle.rules.specs.Laws.Tested.{isolateVerdict, addVerdict}
 use Rattle.rules.specs.Step.{owned, joined, joinedServices, joinAt}
 use Rattle.monitor.specs.declared.Isolated.{Isolated}
 -- the caller's numbers and the lent memories, at a service

@@ -3,7 +3,7 @@ ghost use mathlib.Core.Path.{_≡_};
 ghost use mathlib.Core.List.{[]};
 ghost use mathlib.Core.Bool.{cond};
 ghost use Rattle.common.specs.AddressSets.{setAt};
-ghost use Rattle.rules.specs.Checks.{isolateVerdict};
+ghost use Rattle.rules.specs.Laws.Tested.{isolateVerdict};
 ghost use Rattle.rules.specs.Step.{joined};
 ghost use Rattle.monitor.specs.Outcomes.{called, isolating, isolatingOf, adding, addingOf};
 use memory::word_at;

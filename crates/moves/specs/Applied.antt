@@ -17,7 +17,9 @@ use Rattle.common.specs.Services.{isServiceNumber}
 use Rattle.common.specs.Laws.CheckLaws.{cond-same}
 use Rattle.rules.specs.State.{State, inMemory, hasOwner, ownerAt, jumpersAt, writersAt, readersAt, owns, mayJump, mayStore, reads}
 use Rattle.rules.specs.State as rules
-use Rattle.rules.specs.Checks.{formed, badOwner, arrives, instructionAt, storeVerdict, loadVerdict, instructionVerdict, wordVerdict, verdict}
+use Rattle.rules.specs.Checks.{instructionAt, verdict}
+use Rattle.rules.specs.Laws.Tested.{formed, badOwner, arrives, storeVerdict, loadVerdict, instructionVerdict, wordVerdict, tested}
+use Rattle.rules.specs.Laws.TestedRows.{verdict-tested}
 use Rattle.rules.specs.Step.{ranInstruction, commit, step}
 use Rattle.memory.specs.Places.{putReg, putWord}
 use Rattle.rights.specs.Rights.{free, mayUse}
@@ -307,10 +309,10 @@ module _ (s : State) (w : formed s ≡ true) (k : s .cpu .pc < s .cpu .n) (hn : 
 
   -- the whole of it: the answer, and the state
   move-answers : moveAt s .answer ≡ verdict s
-  unfolding moveOf verdict hasOwner instructionAt
-  move-answers = go (free (s .cpu .strict) owner (s .cpu .next)) (arrives s) refl refl
+  unfolding moveOf tested hasOwner instructionAt
+  move-answers = go (free (s .cpu .strict) owner (s .cpu .next)) (arrives s) refl refl ∙ sym (verdict-tested s)
     where
-      go : (f a : Bool) → free (s .cpu .strict) owner (s .cpu .next) ≡ f → arrives s ≡ a → moveAt s .answer ≡ verdict s
+      go : (f a : Bool) → free (s .cpu .strict) owner (s .cpu .next) ≡ f → arrives s ≡ a → moveAt s .answer ≡ tested s
       go false a e h = simp (w, in-memory, bad-is, e)
       go true false e h = simp (w, in-memory, bad-is, e, h, ← come-is)
       go true true e h = simp (w, in-memory, bad-is, e, h, ← come-is, owner-is) word-answers

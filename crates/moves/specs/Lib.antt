@@ -1,5 +1,4 @@
--- ---- what an instruction moves, its laws and the promise
+-- ---- what an instruction moves, its laws
 pub mod Moves
 pub mod MoveLaws
 pub mod Applied
-pub mod Promises

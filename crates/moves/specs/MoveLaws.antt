@@ -16,9 +16,9 @@ use Rattle.common.specs.Instructions.{plus, arithmetic}
 use Rattle.rules.specs.Compartments.{member}
 use Rattle.rights.specs.Rights.{free}
 use Rattle.rights.specs.Arrivals as at
-use Rattle.instructions.specs.declared.Decoded.{Decoded as Fields}
+use Rattle.instructions.specs.declared.Standing.{Standing}
 use Rattle.instructions.specs.Masks.{fitsIn, fieldsOf, decode-fields, decode-none, decode-high}
-use Rattle.instructions.specs.Promises.{decoded}
+use Rattle.instructions.specs.Views.{standing}
 use Rattle.moves.specs.declared.Move.{Move}
 use Rattle.moves.specs.Moves as is
 
@@ -111,7 +111,7 @@ module _ (regs : List ℕ) (pc owner : ℕ) (strict : Bool) (n : ℕ) (words own
   refused = refl
 
 -- i has the word's fields as they stand
-module _ (word : ℕ) (i : Fields) (ei : decoded i ≡ fieldsOf word) where
+module _ (word : ℕ) (i : Standing) (ei : standing i ≡ fieldsOf word) where
   is-op : i .op ≡ opOf word
   is-op = ap (λ (d : Decoded). d .op) ei
 
@@ -129,7 +129,7 @@ module _ (word : ℕ) (i : Fields) (ei : decoded i ≡ fieldsOf word) where
 
   -- an arm k: t is its test
   module _ (k : ℕ) (ek : i .op ≡ k) (l : k < 14) (t : Bool) (et : t ≡ fitsIn word k) where
-    whole : t ≡ true → decoded i ≡ decode word
+    whole : t ≡ true → standing i ≡ decode word
     whole h = ei ∙ sym (decode-fields word k (sym is-op ∙ ek) l (sym et ∙ h))
 
     -- an arithmetic word that fits names its register by the low 16 bits
@@ -139,9 +139,9 @@ module _ (word : ℕ) (i : Fields) (ei : decoded i ≡ fieldsOf word) where
         subst⁻¹ (λ (d : Decoded). 3 ≤ d .op → d .op ≤ 7 → d .low < 16) (whole h) (register word done) a (omega arith)
 
     module _ (regs : List ℕ) (pc owner : ℕ) (strict : Bool) (n : ℕ) (words owners writers readers : List ℕ) (m : Move) where
-      pub fits : t ≡ true → m ≡ is.instructionMove (decoded i) regs pc owner strict n words owners writers readers
+      pub fits : t ≡ true → m ≡ is.instructionMove (standing i) regs pc owner strict n words owners writers readers
           → m ≡ is.wordMove (decode word) regs pc owner strict n words owners writers readers
-      fits h e = e ∙ taken regs pc owner strict n words owners writers readers (decoded i) (ap (λ (d : Decoded). d .answer) ei) ∙ ap (move regs pc owner strict n words owners writers readers) (whole h)
+      fits h e = e ∙ taken regs pc owner strict n words owners writers readers (standing i) (ap (λ (d : Decoded). d .answer) ei) ∙ ap (move regs pc owner strict n words owners writers readers) (whole h)
 
       pub none : t ≡ false → m ≡ is.stop answer.no-instruction owner → m ≡ is.wordMove (decode word) regs pc owner strict n words owners writers readers
       none h e = e ∙ refused regs pc owner strict n words owners writers readers ∙ ap (move regs pc owner strict n words owners writers readers) (sym (decode-none word k (sym is-op ∙ ek) l (sym et ∙ h)))

@@ -1,6 +1,5 @@
--- ---- laws of what a compartment reaches, and the promises
+-- ---- laws of what a compartment reaches
 pub mod Called
 pub mod WalkLaws
 pub mod ReachLaws
 pub mod ReadLaws
-pub mod Promises

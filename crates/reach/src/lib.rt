@@ -15,7 +15,10 @@ use address_sets::has;
 use address_sets::in_order;
 use memory::word_at;
 
-// Whether the caller owns x, a memory word or a service. The compartments from 1 on own the services.
+// The address before the services, which are owned by the compartments from 1 on.
+const BEFORE: u32 = modes::ISOLATE - 1;
+
+// Whether the caller owns x, a memory word or a service.
 pub fn owns(strict: bool, n: u32, caller: u32, owners: &[u32], x: u32) -> bool
     ensures { λ r. ⌜ r ≡ owns (asked strict n (now (owners .entry)) [] []) caller x ⌝ }
 {
@@ -25,7 +28,7 @@ pub fn owns(strict: bool, n: u32, caller: u32, owners: &[u32], x: u32) -> bool
     if !modes::is_service(strict, x) {
         return false;
     }
-    x - 4095 == caller
+    x - BEFORE == caller
 }
 
 // Whether the set at q is inside memory and in order, and in strict mode the caller may read its words, count and pairs.

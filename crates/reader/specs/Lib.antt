@@ -1,4 +1,4 @@
 -- ---- laws of reading an image, and what the reader promises
-pub mod Promises
+pub mod Views
 pub mod Reading
 pub mod Verdicts

@@ -7,7 +7,7 @@ use borrow.Author.Tests.{ne-eqb}
 use lib.ListN.{length, replicate}
 use Rattle.rules.specs.Images.{field, fields, sizeIn, registersAt, registersIn, entryAt, entryIn, regsOf, imageVerdict}
 use Rattle.images.specs.Accepted.{Accepted, accepted}
-use Rattle.reader.specs.Promises.{imageOf}
+use Rattle.reader.specs.Views.{imageOf}
 
 pub says-refusal : (room : ℕ) (bytes : List ℕ) (v : ℕ) → v ≡ imageVerdict room bytes → (v ≡ 0 → ⊥)
     → record { answer = v; size = 0; regs = replicate 16 0; entry = 0 } ≡ imageOf room bytes

@@ -6,7 +6,7 @@ ghost use Prim.Native.Nat.{_+_, _-_, _*_, _≤_};
 ghost use mathlib.Core.List.{[], _∷_, _++_};
 ghost use lib.ListN.{length, replicate};
 ghost use Rattle.rules.specs.Images.{field, fields};
-ghost use Rattle.reader.specs.Promises.{imageOf};
+ghost use Rattle.reader.specs.Views.{imageOf};
 use crate::verdict::image_verdict;
 
 // Answer 0 with N, the sixteen registers and the entry; or a refusal and zeros.

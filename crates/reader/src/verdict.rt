@@ -5,13 +5,14 @@ ghost use mathlib.Core.Bool.{cond};
 ghost use lib.Dec.{eqb};
 ghost use lib.ListN.{length};
 ghost use Rattle.common.specs.Answers as answer;
-ghost use Rattle.rules.specs.Images.{sizeIn, registersAt, registersIn, entryAt, lastListed, entryVerdict, registersVerdict, imageVerdict};
+ghost use Rattle.common.specs.Tables.{firstOf};
+ghost use Rattle.rules.specs.Images.{sizeIn, registersAt, registersIn, entryAt, entryChecks, lastZero, registerChecks, imageVerdict};
 use crate::field;
 
 // The rest from the entry's count on, which stands at a place.
 fn entry_verdict(bytes: &[u8], at: usize, size: u32) -> u32
     requires { ⌜ (at ≡ entryAt (now bytes)) × (at ≤ length (now bytes)) × (size ≡ sizeIn (now bytes)) ⌝ }
-    ensures { λ r. ⌜ r ≡ entryVerdict (now (bytes .entry)) ⌝ }
+    ensures { λ r. ⌜ r ≡ firstOf (entryChecks (now (bytes .entry))) ⌝ }
 {
     if bytes.len() < at + 4 {
         return answers::NOT_WHOLE;
@@ -36,7 +37,7 @@ fn entry_verdict(bytes: &[u8], at: usize, size: u32) -> u32
 // The last listed register, if one is listed, which stands before a place.
 fn last_verdict(bytes: &[u8], at: usize, count: u32) -> u32
     requires { ⌜ (at ≡ entryAt (now bytes)) × (at ≤ length (now bytes)) × (count ≡ registersIn (now bytes)) ⌝ }
-    ensures { λ r. ⌜ r ≡ cond (lastListed (now (bytes .entry))) answer.done answer.last-zero ⌝ }
+    ensures { λ r. ⌜ r ≡ cond (lastZero (now (bytes .entry))) answer.last-zero answer.done ⌝ }
 {
     if count == 0 {
         return answers::DONE;
@@ -61,7 +62,7 @@ fn first_of(one: u32, other: u32) -> u32
 // The rest from the register count on, which stands at a place.
 fn registers_verdict(bytes: &[u8], at: usize, size: u32) -> u32
     requires { ⌜ (at ≡ registersAt (now bytes)) × (at ≤ length (now bytes)) × (size ≡ sizeIn (now bytes)) ⌝ }
-    ensures { λ r. ⌜ r ≡ registersVerdict (now (bytes .entry)) ⌝ }
+    ensures { λ r. ⌜ r ≡ firstOf (registerChecks (now (bytes .entry))) ⌝ }
 {
     if bytes.len() < at + 4 {
         return answers::NOT_WHOLE;

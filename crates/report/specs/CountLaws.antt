@@ -25,11 +25,7 @@ bit-most true = omega arith
 bit-most false = omega arith
 
 module _ (test : ℕ → Bool) where
-  pub count-none : 0 ≡ countFrom test 0 0
-  unfolding countFrom
-  count-none = refl
-
-  pub count-more : (k : ℕ) → countFrom test 0 (k + 1) ≡ countFrom test 0 k + bit (test k)
+  count-more : (k : ℕ) → countFrom test 0 (k + 1) ≡ countFrom test 0 k + bit (test k)
   unfolding countFrom
   count-more k = ap (countFrom test 0) (add-one k) ∙ ap (λ (x : ℕ). countFrom test 0 k + bit (test x)) (zero-add k)
 
@@ -37,6 +33,27 @@ module _ (test : ℕ → Bool) where
   unfolding countFrom
   count-most zero = omega arith
   count-most (suc k) = let h = count-most k in let b = bit-most (test (0 + k)) in omega arith
+
+-- a loop that counts the places where the test holds, at x
+pub record Counting (test : ℕ → Bool) (places count x : ℕ) : Type 0 where
+  pub most : x ≤ places
+  pub small : count ≤ x
+  pub same : count ≡ countFrom test 0 x
+
+module _ (test : ℕ → Bool) (places : ℕ) where
+  pub count-starts : Counting test places 0 0
+  unfolding countFrom
+  count-starts = record { most = omega arith; small = omega arith; same = refl }
+
+  -- the place at x has it or not
+  pub count-goes : (count x count′ : ℕ) → Counting test places count x → x < places → (b : Bool) → test x ≡ b → count′ ≡ count + bit b
+      → Counting test places count′ (x + 1)
+  count-goes count x count′ w h b e a =
+      let m = bit-most b in
+      record { most = omega arith; small = omega arith; same = a ∙ ap (λ (k : ℕ). k + bit b) (w .same) ∙ ap (λ (z : Bool). countFrom test 0 x + bit z) (sym e) ∙ sym (count-more test x) }
+
+  pub count-ends : (count x n : ℕ) → Counting test places count x → places ≤ x → places ≡ n → count ≡ countFrom test 0 n
+  count-ends count x n w h e = let o = w .most in let z : x ≡ n = omega arith in w .same ∙ ap (countFrom test 0) z
 
 -- two tests that agree on the way
 pub count-same : (t u : ℕ → Bool) (x k : ℕ) → ((y : ℕ) → x ≤ y → y < x + k → t y ≡ u y) → countFrom t x k ≡ countFrom u x k

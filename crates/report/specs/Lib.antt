@@ -1,5 +1,4 @@
 -- ---- laws and meaning of the counts, and their promises
 pub mod CountLaws
 pub mod Meaning
-pub mod Promises
-pub mod SheetRows
+pub mod Wholes

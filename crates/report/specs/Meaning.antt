@@ -16,7 +16,7 @@ use Rattle.paper.specs.Abstract as paper
 use Rattle.rules.specs.Compartments.{size}
 use Rattle.rules.specs.Laws.CompartmentLaws.{member-empty}
 use Rattle.rules.specs.State.{State, inMemory, hasOwner, jumpersAt, writersAt, owns, mayJump, mayStore}
-use Rattle.rules.specs.Checks.{sized}
+use Rattle.rules.specs.Laws.Tested.{sized}
 use Rattle.rules.specs.Laws.FormLaws.{is-sized}
 use Rattle.rules.specs.BothMachines.Match.{Match}
 use Rattle.rules.specs.Counts.{countFrom, addressCount, ownedCount, jumpCount, storeCount, mostOnes, widest}

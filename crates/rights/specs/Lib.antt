@@ -1,5 +1,4 @@
--- ---- who may run and store, the laws and the promises
+-- ---- who may run and store, the laws
 pub mod Rights
 pub mod Arrivals
 pub mod RightsLaws
-pub mod Promises

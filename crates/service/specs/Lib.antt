@@ -2,4 +2,3 @@
 pub mod Served
 pub mod CaseLaws
 pub mod ServiceLaws
-pub mod Promises

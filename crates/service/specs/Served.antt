@@ -75,57 +75,22 @@ isolates s o =
       readers = o .readers;
     }
 
+-- an answer and a number, with these three memories; next, the services' sets and the owners stay
+abbrev pub kept : State → ℕ → ℕ → List ℕ → List ℕ → List ℕ → Serving
+kept s a number jumpers writers readers =
+    record { answer = a; number = number; next = s .cpu .next; services = s .cpu .services; owners = s .owners; jumpers = jumpers; writers = writers; readers = readers }
+
 abbrev pub adds-jump : State → Adding → Serving
-adds-jump s o =
-    record {
-      answer = o .answer;
-      number = 2;
-      next = s .cpu .next;
-      services = s .cpu .services;
-      owners = s .owners;
-      jumpers = o .sets;
-      writers = s .writers;
-      readers = s .readers;
-    }
+adds-jump s o = kept s (o .answer) 2 (o .sets) (s .writers) (s .readers)
 
 abbrev pub adds-store : State → Adding → Serving
-adds-store s o =
-    record {
-      answer = o .answer;
-      number = 3;
-      next = s .cpu .next;
-      services = s .cpu .services;
-      owners = s .owners;
-      jumpers = s .jumpers;
-      writers = o .sets;
-      readers = s .readers;
-    }
+adds-store s o = kept s (o .answer) 3 (s .jumpers) (o .sets) (s .readers)
 
 abbrev pub adds-read : State → Adding → Serving
-adds-read s o =
-    record {
-      answer = o .answer;
-      number = 4;
-      next = s .cpu .next;
-      services = s .cpu .services;
-      owners = s .owners;
-      jumpers = s .jumpers;
-      writers = s .writers;
-      readers = o .sets;
-    }
+adds-read s o = kept s (o .answer) 4 (s .jumpers) (s .writers) (o .sets)
 
 abbrev pub nowhere : State → Serving
-nowhere s =
-    record {
-      answer = answer.no-place;
-      number = 0;
-      next = s .cpu .next;
-      services = s .cpu .services;
-      owners = s .owners;
-      jumpers = s .jumpers;
-      writers = s .writers;
-      readers = s .readers;
-    }
+nowhere s = kept s answer.no-place 0 (s .jumpers) (s .writers) (s .readers)
 
 unfoldable pub serving : State → Serving
 serving s =

@@ -15,7 +15,9 @@ use Rattle.common.specs.Laws.ServiceLaws.{service-number, is-service, other-pla
 use Rattle.common.specs.Laws.Tests.{both, clash}
 use Rattle.rules.specs.Compartments.{member, empty}
 use Rattle.rules.specs.State.{Processor, State, inMemory, hasOwner, ownerAt, jumpersAt, writersAt, readersAt, owns, mayJump, mayStore, mayRead, reads}
-use Rattle.rules.specs.Checks.{seated, formed, badOwner, arrives, goodSets, setsWithin, returns, setA, setJ, setS, setR, isolateVerdict, addVerdict, serviceVerdict, verdict}
+use Rattle.rules.specs.Checks.{setA, setJ, setS, setR, verdict, goodSets, setsWithin, returns}
+use Rattle.rules.specs.Laws.Tested.{seated, formed, badOwner, arrives, isolateVerdict, addVerdict, serviceVerdict, tested}
+use Rattle.rules.specs.Laws.TestedRows.{verdict-tested}
 use Rattle.rules.specs.Step.{Stepped, owned, joined, joinedServices, joinAt, isolated, jumpAdded, storeAdded, readAdded, ranService, commit, step}
 use Rattle.rules.specs.Laws.FormLaws.{is-formed, is-numbered}
 use Rattle.monitor.specs.Outcomes.{called, isolating, Adding, adding}
@@ -32,8 +34,8 @@ module _ (s : State) (f : formed s ≡ true) (h : s .cpu .n ≤ s .cpu .pc) wher
 
   -- 2
   no-place : isService (s .cpu .strict) (s .cpu .pc) ≡ false → record { answer = answer.no-place; state = s } ≡ step s
-  unfolding step verdict hasOwner
-  no-place k = simp (f, not-inside, k)
+  unfolding step tested hasOwner
+  no-place k = let v : verdict s ≡ answer.no-place = verdict-tested s ∙ simp (f, not-inside, k) in simp v
 
   -- at the service whose set is `gate`
   module _ (k : isService (s .cpu .strict) (s .cpu .pc) ≡ true) (gate : ℕ) (g : gate ≡ getD (s .cpu .services) (s .cpu .pc - isolate) empty) where
@@ -58,13 +60,13 @@ module _ (s : State) (f : formed s ≡ true) (h : s .cpu .n ≤ s .cpu .pc) wher
 
     -- 4
     no-arrival : arrivesBy (s .cpu) gate ≡ false → record { answer = answer.no-arrival; state = s } ≡ step s
-    unfolding step verdict hasOwner badOwner
-    no-arrival e = simp (f, not-inside, k, arrives-is ∙ e)
+    unfolding step tested hasOwner badOwner
+    no-arrival e = let v : verdict s ≡ answer.no-arrival = verdict-tested s ∙ simp (f, not-inside, k, arrives-is ∙ e) in simp v
 
     module _ (e : arrivesBy (s .cpu) gate ≡ true) where
       verdict-is : verdict s ≡ serviceVerdict s (s .cpu .prev)
-      unfolding verdict hasOwner badOwner
-      verdict-is = simp (f, not-inside, k, arrives-is ∙ e)
+      unfolding tested hasOwner badOwner
+      verdict-is = verdict-tested s ∙ simp (f, not-inside, k, arrives-is ∙ e)
 
       -- the service refuses
       refuses : (a : ℕ) → a ≡ serviceVerdict s (s .cpu .prev) → a ≢ answer.done → record { answer = a; state = s } ≡ step s

@@ -111,7 +111,7 @@ pub fn serve(
     ensures { λ r. ⌜ servedOf r (now (owners .exit)) (now (jumpers .exit)) (now (writers .exit)) (now (readers .exit)) ≡ serving (stateFrom strict (now (regs .entry)) n pc prev jumped next services (now (words .entry)) (now (owners .entry)) (now (jumpers .entry)) (now (writers .entry)) (now (readers .entry))) ⌝ }
 {
     match pc {
-        4096 => {
+        modes::ISOLATE => {
             let i = isolate(
                 regs,
                 strict,
@@ -135,7 +135,7 @@ pub fn serve(
                 services: made,
             }
         }
-        4097 => {
+        modes::ADD_JUMP_TARGET => {
             let answer = add_target(regs, strict, n, prev, jumped, services[1], owners, jumpers);
             Served {
                 answer,
@@ -144,7 +144,7 @@ pub fn serve(
                 services,
             }
         }
-        4098 => {
+        modes::ADD_STORE_TARGET => {
             let answer = add_target(regs, strict, n, prev, jumped, services[2], owners, writers);
             Served {
                 answer,
@@ -153,7 +153,7 @@ pub fn serve(
                 services,
             }
         }
-        4099 => {
+        modes::ADD_READ_TARGET => {
             if !strict {
                 return no_place(next, services);
             }

@@ -1,28 +1,15 @@
 -- The text of a list of words: one line a word, instructions in the sheet's spelling and all other words as numbers.
 use mathlib.Core.Bool.{cond, _&&_, _||_}
 use mathlib.Core.List.{List, [], _∷_, _++_}
-use Prim.Native.Nat.{ℕ, zero, suc, _-_, _/_}
+use Prim.Native.Nat.{ℕ, _-_}
 use lib.Dec.{eqb, leb, ltb}
 use lib.ListN.{length, getD}
 use Rattle.common.specs.Answers as answer
 use Rattle.common.specs.Opcodes as is
 use Rattle.common.specs.Words.{Decoded, decode}
 use Rattle.rules.specs.Images.{over, Written}
-use Rattle.grammar.specs.Bytes.{bytes}
-use Rattle.grammar.specs.Laws.Digits.{digits}
-use Rattle.sources.specs.Texts.{feed}
-
--- how many decimal digits a number has
-unfoldable pub widthBy : ℕ → ℕ → ℕ
-widthBy zero n = 1
-widthBy (suc k) n = cond (ltb n 10) 1 (suc (widthBy k (n / 10)))
-
-abbrev pub width : ℕ → ℕ
-width n = widthBy n n
-
--- a number in decimal digits, without a zero before it
-unfoldable pub decimal : ℕ → List ℕ
-decimal n = digits 10 (width n) n
+use Rattle.numerals.specs.Bytes.{bytes, feed}
+use Rattle.numerals.specs.Numerals.{digits, decimal}
 
 abbrev pub blank : List ℕ
 blank = bytes " "

@@ -1,5 +1,4 @@
 -- The folder Listings: the listing of words reads back.
-pub mod ListingDigits
 pub mod ListingRows
 pub mod ListingLines
 pub mod ListingWords

@@ -3,14 +3,11 @@ use mathlib.Core.Bool.{cond}
 use mathlib.Core.List.{List, [], _∷_, map}
 use Prim.Native.Nat.{ℕ}
 use lib.Dec.{eqb}
+use Rattle.numerals.specs.Bytes.{feed}
 use Rattle.grammar.specs.Trees.{Line}
 use Rattle.grammar.specs.Grammar.{deepest}
 use Rattle.grammar.specs.Reading.Reader.{Answer}
 use Rattle.grammar.specs.Sources.{answer}
-
--- LF
-abbrev pub feed : ℕ
-feed = 10
 
 abbrev pub onto : ℕ → List (List ℕ) → List (List ℕ)
 onto b [] = (b ∷ []) ∷ []

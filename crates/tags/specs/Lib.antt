@@ -1,3 +1,2 @@
--- ---- laws of the tags, and the promises
+-- ---- laws of the tags
 pub mod TagLaws
-pub mod Promises

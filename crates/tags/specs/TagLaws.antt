@@ -118,21 +118,35 @@ same-walked n first x y i f g =
     (λ h. let w = of-walked n first x i h in is-walked n first y i (w .inside) (w .from) (f (w .inside) (w .from) (w .before)))
     (λ h. let w = of-walked n first y i h in is-walked n first x i (w .inside) (w .from) (g (w .inside) (w .from) (w .before)))
 
-module _ (g : ℕ → ℕ) (l : List ℕ) (n first : ℕ) where
-  pub walk-starts : l ≡ changed (walked n first first) g l
-  walk-starts = changed-none g l (walked n first first) (λ i. not-walked n first first i (λ w. omega arith))
+-- a loop over a pair's places below end, at x: l is changed at those before x
+pub record Walking (g : ℕ → ℕ) (l : List ℕ) (n first end : ℕ) (m : List ℕ) (x : ℕ) : Type 0 where
+  pub from : first ≤ x
+  pub most : x ≤ max first end
+  pub long : length m ≡ length l
+  pub same : m ≡ changed (walked n first x) g l
 
-  pub walk-goes : (x : ℕ) → first ≤ x → x < n → x < length l
-      → set (changed (walked n first x) g l) x (g (getD (changed (walked n first x) g l) x 0)) ≡ changed (walked n first (x + 1)) g l
-  walk-goes x h k a =
-      changed-set g l (walked n first x) (walked n first (x + 1)) x a (not-walked n first x x (λ w. omega arith)) (is-walked n first (x + 1) x k h (omega arith))
-      (λ i ne. same-walked n first (x + 1) x i (λ p q r. omega arith) (λ p q r. omega arith))
+module _ (g : ℕ → ℕ) (l : List ℕ) (n first end : ℕ) where
+  pub walk-starts : Walking g l n first end l first
+  walk-starts =
+      record { from = omega arith; most = omega arith; long = refl; same = changed-none g l (walked n first first) (λ i. not-walked n first first i (λ w. omega arith)) }
+
+  pub walk-goes : (m : List ℕ) (x v : ℕ) → Walking g l n first end m x → x < end → end ≤ n → end ≤ length l → v ≡ g (getD m x 0)
+      → Walking g l n first end (set m x v) (x + 1)
+  walk-goes m x v w h k a e =
+      let f = w .from in
+      record {
+        from = omega arith;
+        most = omega arith;
+        long = length-set m x v ∙ w .long;
+        same = ap (set m x) e ∙ ap (λ (m : List ℕ). set m x (g (getD m x 0))) (w .same)
+            ∙ changed-set g l (walked n first x) (walked n first (x + 1)) x (omega arith) (not-walked n first x x (λ w. omega arith)) (is-walked n first (x + 1) x (omega arith) f (omega arith))
+            (λ i ne. same-walked n first (x + 1) x i (λ p q r. omega arith) (λ p q r. omega arith));
+      }
 
   -- past the clipped end the walk has been over the whole pair
-  pub walk-ends : (past x : ℕ) → min (min past n) (length l) ≤ x → x ≤ max first (min (min past n) (length l))
-      → changed (walked n first x) g l ≡ changed (walked n first past) g l
-  walk-ends past x h k =
-      changed-same g l (walked n first x) (walked n first past)
+  pub walk-ends : (m : List ℕ) (x past : ℕ) → Walking g l n first end m x → end ≤ x → end ≡ min (min past n) (length l) → m ≡ changed (walked n first past) g l
+  walk-ends m x past w h e =
+      w .same ∙ changed-same g l (walked n first x) (walked n first past)
       (λ i hi. same-walked n first x past i (λ p q r. omega arith) (λ p q r. omega arith))
 
 -- ---- pair by pair
@@ -154,22 +168,35 @@ module _ (g : ℕ → ℕ) (twice : (v : ℕ) → g (g v) ≡ g v) (l : List ℕ
       go true false true v = refl
       go true false false v = refl
 
-  module _ (words : List ℕ) (q : ℕ) where
-    pub set-starts : l ≡ changed (below n (pairsAt words (q + 1) 0)) g l
-    unfolding pairsAt inSet
-    set-starts = changed-none g l (below n []) (λ i. and-false (ltb i n))
+-- a loop over the k pairs of the set at q, at pair j: l is changed at those before j
+pub record Pairing (g : ℕ → ℕ) (l : List ℕ) (n : ℕ) (words : List ℕ) (q k : ℕ) (m : List ℕ) (j : ℕ) : Type 0 where
+  pub most : j ≤ k
+  pub long : length m ≡ length l
+  pub same : m ≡ changed (below n (pairsAt words (q + 1) j)) g l
 
-    pub set-goes : (j : ℕ) (p : Pair) → p ≡ pairAt words (q + 1) j
-        → changed (below n (p ∷ [])) g (changed (below n (pairsAt words (q + 1) j)) g l) ≡ changed (below n (pairsAt words (q + 1) (j + 1))) g l
-    unfolding pairsAt
-    set-goes j p e =
-        pair-more p (pairsAt words (q + 1) j)
-        ∙ ap (λ (r : Pair). changed (below n (r ∷ pairsAt words (q + 1) j)) g l) e
-        ∙ ap (λ (k : ℕ). changed (below n (pairsAt words (q + 1) k)) g l) (sym (add-one j))
+module _ (g : ℕ → ℕ) (twice : (v : ℕ) → g (g v) ≡ g v) (l : List ℕ) (n : ℕ) (words : List ℕ) (q k : ℕ) where
+  pub set-starts : Pairing g l n words q k l 0
+  unfolding pairsAt inSet
+  set-starts = record { most = omega arith; long = refl; same = changed-none g l (below n []) (λ i. and-false (ltb i n)) }
 
-    pub set-ends : (j : ℕ) → j ≡ getD words q 0 → changed (below n (pairsAt words (q + 1) j)) g l ≡ changed (below n (setAt words q)) g l
-    unfolding setAt
-    set-ends j e = ap (λ (k : ℕ). changed (below n (pairsAt words (q + 1) k)) g l) e
+  pub set-goes : (m : List ℕ) (j : ℕ) → Pairing g l n words q k m j → j < k → (p : Pair) → p ≡ pairAt words (q + 1) j
+      → (m′ : List ℕ) → length m′ ≡ length m → m′ ≡ changed (below n (p ∷ [])) g m → Pairing g l n words q k m′ (j + 1)
+  unfolding pairsAt
+  set-goes m j w h p e m′ a b =
+      record {
+        most = omega arith;
+        long = a ∙ w .long;
+        same = b ∙ ap (changed (below n (p ∷ [])) g) (w .same)
+            ∙ pair-more g twice l n p (pairsAt words (q + 1) j)
+            ∙ ap (λ (r : Pair). changed (below n (r ∷ pairsAt words (q + 1) j)) g l) e
+            ∙ ap (λ (i : ℕ). changed (below n (pairsAt words (q + 1) i)) g l) (sym (add-one j));
+      }
+
+  pub set-ends : (m : List ℕ) (j : ℕ) → Pairing g l n words q k m j → k ≤ j → k ≡ getD words q 0 → m ≡ changed (below n (setAt words q)) g l
+  unfolding setAt
+  set-ends m j w h e =
+      let o = w .most in
+      let z : j ≡ getD words q 0 = omega arith in w .same ∙ ap (λ (i : ℕ). changed (below n (pairsAt words (q + 1) i)) g l) z
 
 -- ---- the services
 

@@ -22,7 +22,7 @@ use denote.Memory.{partAt, pointee}
 use denote.Plain.{uint-lawful, uint-makes, uint-tells}
 use denote.Builtin.{u32, u64, RefOf, SliceRefOf}
 use denote.Ref.{RefT, ShrRef, ptr-vals, shr-tells, now}
-use denote.Slice.{sliceVal, slice-vals, ShrSlice, Room, shr-slice-tells, shr-slice-copy}
+use denote.Slice.{slice-vals, ShrSlice, Room, shr-slice-tells, shr-slice-copy}
 use denote.Signature.{plain}
 use denote.Exit.{yes}
 use denote.Steps.{only, looks, shuts, owned, peeks, heard, nothing}
@@ -38,40 +38,18 @@ use Rattle.machine.specs.declared.Processor.{Processor}
 use Rattle.machine.proofs.Processor as T
 use Rattle.machine.proofs.Processor.Laws as T′
 use Rattle.walks.proofs.Vouched.{vouched}
-use Rattle.walks.proofs.Pieces.{value, slice}
+use Rattle.walks.proofs.Pieces.{value, slice, spelled, taking, made, recVal}
 
 -- the call, and the call beneath it
 abbrev ended : Ended
-ended = record {
-  signature = record {
-    lifetimes = 2;
-    outlives = [];
-    params = RefOf (0 ∷ []) tt (plain (λ κs. T.the-row)) (λ κs. tt) ∷ SliceRefOf (1 ∷ []) tt (plain (λ κs. u64)) (λ κs. tt) ∷ [];
-    result = plain (λ κs. u32);
-  };
-  kept = (yes, (yes, tt));
-}
+ended = taking 2 (RefOf (0 ∷ []) tt (plain (λ κs. T.the-row)) (λ κs. tt) ∷ SliceRefOf (1 ∷ []) tt (plain (λ κs. u64)) (λ κs. tt) ∷ []) (plain (λ κs. u32)) (yes, (yes, tt))
 
 abbrev beneath : Ended
-beneath = record {
-  signature = record {
-    lifetimes = 1;
-    outlives = [];
-    params = plain (λ κs. T.the-row) ∷ SliceRefOf (0 ∷ []) tt (plain (λ κs. u64)) (λ κs. tt) ∷ [];
-    result = plain (λ κs. u32);
-  };
-  kept = (yes, (yes, tt));
-}
+beneath = taking 1 (plain (λ κs. T.the-row) ∷ SliceRefOf (0 ∷ []) tt (plain (λ κs. u64)) (λ κs. tt) ∷ []) (plain (λ κs. u32)) (yes, (yes, tt))
 
 -- the MIR of the call, by the name of the one beneath it
 abbrev function : Name → Fn
-function callee = record {
-  lifetimes = 2;
-  outlives = [];
-  params = 2;
-  locals = value (tyInt w32) ∷ value (tyRef (named 0) imm (pointee (T.the-row .written))) ∷ value (slice (named 1) imm w64) ∷ value T′.mir ∷ [];
-  body = seq (assign (place 3 []) (rvOpd (copy (place 1 (deref T′.mir ∷ []))))) (seq (call callee (copy (place 3 []) ∷ copy (place 2 []) ∷ []) (place 0 [])) return);
-}
+function callee = made 2 2 (value (tyInt w32) ∷ value (tyRef (named 0) imm (pointee (T.the-row .written))) ∷ value (slice (named 1) imm w64) ∷ value T′.mir ∷ []) (seq (assign (place 3 []) (rvOpd (copy (place 1 (deref T′.mir ∷ []))))) (seq (call callee (copy (place 3 []) ∷ copy (place 2 []) ∷ []) (place 0 [])) return))
 
 abbrev Arg : Type 0
 Arg = (RefT Processor × (RefT (List ℕ) × Unit {0}))
@@ -86,10 +64,6 @@ Lasts = (Unit {0} × (Unit {0} × Unit {0}))
 abbrev stayed : Stays (ended .signature .params) (ended .kept)
 stayed = (stay-none-ref (0 ∷ []) tt (plain (λ _. T.the-row)) yes, (stay-none-slice (1 ∷ []) tt (plain (λ _. u64)) yes, tt))
 
--- machine values
-abbrev recVal : Processor → Val
-recVal h = LL.val T.the-type T′.the-laws h
-
 -- whatever is measured beneath; promised is what the call promises, and holds says that this follows
 module _ (measure : Processor → List ℕ → ℕ) {M : Type 1} (𝓤 : URA M) (H : Heap 𝓤) (A : Atoms 𝓤) (promised : (κs : Lfts 2) → Arg → ℕ → AtExit ended κs → SProp 𝓤)
     (holds : (κs : Lfts 2) (a : Arg) (r : ℕ) → r ≡ measure (now (a .0)) (now (a .1 .0)) → ent 𝓤 (emp 𝓤) (promised κs a r (atExit ended κs a (tt, (tt, tt))))) where
@@ -102,13 +76,7 @@ module _ (measure : Processor → List ℕ → ℕ) {M : Type 1} (𝓤 : URA M) 
   abbrev Callee : Contract 𝓤
   Callee = tripleOf 𝓤 H A (beneath .signature) (closing 𝓤 H A beneath beneathClauses)
 
-  module _ (W : Given 𝓤 H A) (κ0 : Lft) (q0 : Share) (b o : ℕ) (γ : GName) (h : Processor) (κ1 : Lft) (q1 : Share) (b0 o0 : ℕ) (γ0 : GName) (y0 : List ℕ) (room0 : Room u64 (length y0)) where
-    abbrev x0 : RefT (List ℕ)
-    x0 = record { ptr = (b0, o0); name = γ0; now = y0 }
-
-    abbrev s0 : Val
-    s0 = sliceVal (b0, o0) (length y0)
-
+  module _ (W : Given 𝓤 H A) (κ0 : Lft) (q0 : Share) (b o : ℕ) (γ : GName) (h : Processor) (κ1 : Lft) (q1 : Share) (x0 : RefT (List ℕ)) (room0 : Room u64 (length (x0 .now))) where
     abbrev a : Arg
     a = (record { ptr = (b, o); name = γ; now = h }, (x0, tt))
 
@@ -116,34 +84,34 @@ module _ (measure : Processor → List ℕ → ℕ) {M : Type 1} (𝓤 : URA M) 
     passed = (h, (x0, tt))
 
     abbrev vals : (List Val × (List Val × Unit {0}))
-    vals = (vptr b o ∷ [], (s0 ∷ [], tt))
+    vals = (vptr b o ∷ [], ((spelled x0) ∷ [], tt))
 
     abbrev Post : Val → SProp 𝓤
     Post = walkOf 𝓤 H A ended stayed clauses .post (((κ0, (κ1, tt)), (q0, (q1, tt)), tt, a, vals), tt)
 
     abbrev Said : ℕ → Type 0
-    Said r = r ≡ measure h y0
+    Said r = r ≡ measure h (x0 .now)
 
     abbrev to-callee : Callee .Ghost
-    to-callee = (((κ1, tt), (q1, tt), tt, passed, (recVal h ∷ [], (s0 ∷ [], tt))), tt)
+    to-callee = (((κ1, tt), (q1, tt), tt, passed, (recVal h ∷ [], ((spelled x0) ∷ [], tt))), tt)
 
-    goes-callee : ent 𝓤 (⋆ 𝓤 H A (((‵ (flft κ1 q1) ⊛ ‵ ftrue) ⊛ ‵ (owns (T.the-row ∷ ShrSlice (named 0) κ1 u64 ∷ []) passed (recVal h ∷ [], (s0 ∷ [], tt)))) ∷ [])) (Callee .pre to-callee)
-    goes-callee = qed W (((‵ (flft κ1 q1) ⊛ ‵ ftrue) ⊛ ‵ (owns (T.the-row ∷ ShrSlice (named 0) κ1 u64 ∷ []) passed (recVal h ∷ [], (s0 ∷ [], tt)))) ∷ []) ∵ frame ! $ done !
+    goes-callee : ent 𝓤 (⋆ 𝓤 H A (((‵ (flft κ1 q1) ⊛ ‵ ftrue) ⊛ ‵ (owns (T.the-row ∷ ShrSlice (named 0) κ1 u64 ∷ []) passed (recVal h ∷ [], ((spelled x0) ∷ [], tt)))) ∷ [])) (Callee .pre to-callee)
+    goes-callee = qed W (((‵ (flft κ1 q1) ⊛ ‵ ftrue) ⊛ ‵ (owns (T.the-row ∷ ShrSlice (named 0) κ1 u64 ∷ []) passed (recVal h ∷ [], ((spelled x0) ∷ [], tt)))) ∷ []) ∵ frame ! $ done !
 
-    exits : (r : ℕ) → Said r → Is u32 r (vint w32 r ∷ []) → ent 𝓤 (⋆ 𝓤 H A (‵ (fres γ (T.the-row .coded .code h)) ∷ ‵ (fshr-bor κ0 (λ s. partAt T.the-row s h b o)) ∷ ‵ (flft κ0 q0) ∷ ‵ (ShrSlice (named 1) κ1 u64 .own x0 (s0 ∷ [])) ∷ (‵ (flft κ1 q1) ⊛ ‵ ftrue) ∷ [])) (Post (vint w32 r))
+    exits : (r : ℕ) → Said r → Is u32 r (vint w32 r ∷ []) → ent 𝓤 (⋆ 𝓤 H A (‵ (fres γ (T.the-row .coded .code h)) ∷ ‵ (fshr-bor κ0 (λ s. partAt T.the-row s h b o)) ∷ ‵ (flft κ0 q0) ∷ ‵ (ShrSlice (named 1) κ1 u64 .own x0 ((spelled x0) ∷ [])) ∷ (‵ (flft κ1 q1) ⊛ ‵ ftrue) ∷ [])) (Post (vint w32 r))
     exits r e fits =
-        qed W (‵ (fres γ (T.the-row .coded .code h)) ∷ ‵ (fshr-bor κ0 (λ s. partAt T.the-row s h b o)) ∷ ‵ (flft κ0 q0) ∷ ‵ (ShrSlice (named 1) κ1 u64 .own x0 (s0 ∷ [])) ∷ (‵ (flft κ1 q1) ⊛ ‵ ftrue) ∷ []) ∵
+        qed W (‵ (fres γ (T.the-row .coded .code h)) ∷ ‵ (fshr-bor κ0 (λ s. partAt T.the-row s h b o)) ∷ ‵ (flft κ0 q0) ∷ ‵ (ShrSlice (named 1) κ1 u64 .own x0 ((spelled x0) ∷ [])) ∷ (‵ (flft κ1 q1) ⊛ ‵ ftrue) ∷ []) ∵
         suffices ! _ (ends-at 𝓤 H A ended stayed clauses W (((κ0, (κ1, tt)), (q0, (q1, tt)), tt, a, vals), tt) (vint w32 r) r (tt, (tt, tt)) (tt, (tt, tt))) $
         vouched ! (holds (κ0, (κ1, tt)) a r e) $ move ! (2 ∷ 4 ∷ []) $ join ! $ frame ! $ feqI ! (List Val) (vptr b o ∷ []) (vptr b o ∷ []) refl $ move ! (0 ∷ 1 ∷ 2 ∷ []) $ fjoin3 ! $ nothing ! $ move ! (2 ∷ 0 ∷ []) $ fjoin ! $ move ! (1 ∷ 0 ∷ []) $ fjoin ! $ frame ! $ owned ! u32 (Is u32) (uint-makes 𝓤 H A W w32) r _ fits $ done !
 
     module _ (callee : Name) (C : Calls 𝓤 H) (Λ : Loops 𝓤 H) (fm : FmC 𝓤 H (W .laws) C) (known : Triple 𝓤 (C callee) Callee) where
-      walk : ent 𝓤 (onEntry 𝓤 H A (ended .signature) (κ0, (κ1, tt)) (q0, (q1, tt)) a vals) (WpFn 𝓤 H C Λ (function callee) (vptr b o ∷ s0 ∷ []) Post)
+      walk : ent 𝓤 (onEntry 𝓤 H A (ended .signature) (κ0, (κ1, tt)) (q0, (q1, tt)) a vals) (WpFn 𝓤 H C Λ (function callee) (vptr b o ∷ (spelled x0) ∷ []) Post)
       walk =
           qed W ((‵ (flft κ0 q0) ⊛ ‵ (flft κ1 q1) ⊛ ‵ ftrue) ∷ ‵ (owns (ShrRef (named 0) κ0 T.the-row ∷ ShrSlice (named 1) κ1 u64 ∷ []) a vals) ∷ []) ∵
-          enter ! C Λ (function callee) (vptr b o ∷ s0 ∷ []) _ $ alloc1 ! (λ l0. alloc1 ! (λ l1. alloc1 ! (λ l2. alloc1 ! (λ l3. alloc0 ! $ params1 ! $ pass1 ! (init ! 4 refl (tt, tt)) $ pass1 ! (init ! 2 refl (tt, (tt, (record { fits = room0 .0 }, tt)))) $ pass0 ! $ move ! (9 ∷ []) $ fsplit ! $ fsplit3 ! $ drop ! $ move ! (2 ∷ []) $ fsplit ! $ move ! (12 ∷ []) $ split ! $ move ! (5 ∷ 0 ∷ []) $
+          enter ! C Λ (function callee) (vptr b o ∷ (spelled x0) ∷ []) _ $ alloc1 ! (λ l0. alloc1 ! (λ l1. alloc1 ! (λ l2. alloc1 ! (λ l3. alloc0 ! $ params1 ! $ pass1 ! (init ! 4 refl (tt, tt)) $ pass1 ! (init ! 2 refl (tt, (tt, (record { fits = room0 .0 }, tt)))) $ pass0 ! $ move ! (9 ∷ []) $ fsplit ! $ fsplit3 ! $ drop ! $ move ! (2 ∷ []) $ fsplit ! $ move ! (12 ∷ []) $ split ! $ move ! (5 ∷ 0 ∷ []) $
           looks ! tt T.the-row (Is T.the-row) (shows 𝓤 H A T.the-row) (LL.vals T.the-type T′.the-laws) (LL.tells T.the-type T′.the-laws) (LL.copy T.the-type T′.the-copy 𝓤 H A W) h b o (λ q′ vs. spelt ! T.the-row (Is T.the-row) (shows 𝓤 H A T.the-row) (LL.vals T.the-type T′.the-laws) (LL.tells T.the-type T′.the-laws) q′ h vs b o $ move ! (1 ∷ []) $ peeks ! T.the-row (Is T.the-row) (shows 𝓤 H A T.the-row) h (recVal h ∷ []) (λ was. move ! (1 ∷ 0 ∷ []) $
           -- [cell; own; obor; shr; alive; own0; owns; res; _r; _p0; _1; _0]
-          assigns ! (of-opd ! (load ! (from ! (hop ! (look ! 12 refl) (stop !))) (look-raw ! 0 refl))) (from ! (stop !)) (init ! 8 refl (LL.lawful T.the-type T′.the-laws 𝓤 H A W .typed h _ was .0)) $ shuts ! tt T.the-row q′ h (recVal h ∷ []) b o $ move ! (3 ∷ []) $ use1 W (‵ (ShrSlice (named 1) κ1 u64 .own x0 (s0 ∷ [])) ⊛ ‵ (ShrSlice (named 1) κ1 u64 .own x0 (s0 ∷ []))) (shr-slice-copy 𝓤 H A W (named 1) κ1 u64 .twice x0 (s0 ∷ [])) $ split ! $ nothing ! $ move ! (1 ∷ 0 ∷ []) $ fjoin ! $ owned ! T.the-row (Is T.the-row) (LL.makes T.the-type T′.the-plain 𝓤 H A) h _ was $ fjoin ! $ move ! (4 ∷ 0 ∷ []) $ join ! $ use1 W (raw (Callee .pre to-callee)) goes-callee $
+          assigns ! (of-opd ! (load ! (from ! (hop ! (look ! 12 refl) (stop !))) (look-raw ! 0 refl))) (from ! (stop !)) (init ! 8 refl (LL.lawful T.the-type T′.the-laws 𝓤 H A W .typed h _ was .0)) $ shuts ! tt T.the-row q′ h (recVal h ∷ []) b o $ move ! (3 ∷ []) $ use1 W (‵ (ShrSlice (named 1) κ1 u64 .own x0 ((spelled x0) ∷ [])) ⊛ ‵ (ShrSlice (named 1) κ1 u64 .own x0 ((spelled x0) ∷ []))) (shr-slice-copy 𝓤 H A W (named 1) κ1 u64 .twice x0 ((spelled x0) ∷ [])) $ split ! $ nothing ! $ move ! (1 ∷ 0 ∷ []) $ fjoin ! $ owned ! T.the-row (Is T.the-row) (LL.makes T.the-type T′.the-plain 𝓤 H A) h _ was $ fjoin ! $ move ! (4 ∷ 0 ∷ []) $ join ! $ use1 W (raw (Callee .pre to-callee)) goes-callee $
           calls-at ! fm Callee known to-callee (and-then ! (load ! (from ! (stop !)) (look ! 6 refl)) (and-then ! (load ! (from ! (stop !)) (look ! 8 refl)) (no-more !))) (λ v.
           use1 W (later (some (λ (r : ℕ). ((‵ (flft κ1 q1) ⊛ ‵ ftrue) ⊛ ‵ (u32 .own r (v ∷ []))) ⊛ raw (ensured 𝓤 H A beneath beneathClauses (κ1, tt) passed tt r)))) (id⊢ 𝓤 _) $ await ! tt $ pick ! (λ r.
           split ! $ move ! (1 ∷ []) $ use1 W (some (λ (zs : Lasts). ‵ (lasts beneath (κ1, tt) passed zs) ⊛ raw (fact 𝓤 (Said r)))) (id⊢ 𝓤 _) $ pick ! (λ zs. split ! $ drop ! $ heard ! (Said r) (λ e.
@@ -156,7 +124,7 @@ module _ (measure : Processor → List ℕ → ℕ) {M : Type 1} (𝓤 : URA M) 
     walks : (C : Calls 𝓤 H) (Λ : Loops 𝓤 H) → FmC 𝓤 H (W .laws) C → Triple 𝓤 (C callee) Callee → Walks 𝓤 H A ended stayed (WpFn 𝓤 H C Λ (function callee)) clauses
     walks C Λ fm known = walked 𝓤 H A ended stayed clauses (WpFn 𝓤 H C Λ (function callee)) (λ κs. (ptr-vals, (slice-vals, tt)))
         (λ κs. (shr-tells (named 0) (κs .0) T.the-row, (shr-slice-tells (named 1) (κs .1 .0) u64, tt)))
-        (λ κs qs bounds a _ are. via 𝓤 _ (fst∗ 𝓤 _ (emp 𝓤)) (walk W (κs .0) (qs .0) (a .0 .ptr .0) (a .0 .ptr .1) (a .0 .name) (a .0 .now) (κs .1 .0) (qs .1 .0) (a .1 .0 .ptr .0) (a .1 .0 .ptr .1) (a .1 .0 .name) (a .1 .0 .now) (are .1 .0 .0 .1) callee C Λ fm known))
+        (λ κs qs bounds a _ are. via 𝓤 _ (fst∗ 𝓤 _ (emp 𝓤)) (walk W (κs .0) (qs .0) (a .0 .ptr .0) (a .0 .ptr .1) (a .0 .name) (a .0 .now) (κs .1 .0) (qs .1 .0) (a .1 .0) (are .1 .0 .0 .1) callee C Λ fm known))
 
     pub meets : (𝓣 : Tables 𝓤 H) → Triple 𝓤 (𝓣 .C callee) Callee
         → Meets 𝓤 H A (ended .signature) (WpFn 𝓤 H (𝓣 .C) (𝓣 .Λ) (function callee)) (closing 𝓤 H A ended clauses)

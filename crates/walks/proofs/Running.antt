@@ -25,7 +25,7 @@ use denote.Memory.{mem, pointee}
 use denote.Plain.{uint-makes, uint-vals, uint-tells}
 use denote.Builtin.{u32, u64, RefMutOf, SliceRefMutOf}
 use denote.Ref.{RefT, MutRef, ptr-vals, mut-tells, now}
-use denote.Slice.{sliceVal, slice-vals, MutSlice, Room, finally, mut-slice-tells}
+use denote.Slice.{slice-vals, MutSlice, Room, finally, mut-slice-tells}
 use denote.Signature.{plain}
 use denote.Exit.{yes}
 use denote.Steps.{only, opens, tied, closes, owned, peeks, heard, nothing}
@@ -44,40 +44,18 @@ use Rattle.machine.specs.declared.Ran.{Ran}
 use Rattle.machine.proofs.Ran as S
 use Rattle.machine.proofs.Ran.Laws as S′
 use Rattle.walks.proofs.Vouched.{vouched}
-use Rattle.walks.proofs.Pieces.{value, slice, lendOn}
+use Rattle.walks.proofs.Pieces.{value, slice, lendOn, spelled, taking, made, recVal, ansVal}
 
 -- the call, and the call beneath it
 abbrev ended : Ended
-ended = record {
-  signature = record {
-    lifetimes = 7;
-    outlives = [];
-    params = RefMutOf (0 ∷ []) tt (plain (λ κs. T.the-row)) (λ κs. tt) ∷ SliceRefMutOf (1 ∷ []) tt (plain (λ κs. u32)) (λ κs. tt) ∷ SliceRefMutOf (2 ∷ []) tt (plain (λ κs. u32)) (λ κs. tt) ∷ SliceRefMutOf (3 ∷ []) tt (plain (λ κs. u64)) (λ κs. tt) ∷ SliceRefMutOf (4 ∷ []) tt (plain (λ κs. u64)) (λ κs. tt) ∷ SliceRefMutOf (5 ∷ []) tt (plain (λ κs. u64)) (λ κs. tt) ∷ plain (λ κs. u32) ∷ RefMutOf (6 ∷ []) tt (plain (λ κs. u32)) (λ κs. tt) ∷ [];
-    result = plain (λ κs. u32);
-  };
-  kept = (yes, (yes, (yes, (yes, (yes, (yes, (yes, (yes, tt))))))));
-}
+ended = taking 7 (RefMutOf (0 ∷ []) tt (plain (λ κs. T.the-row)) (λ κs. tt) ∷ SliceRefMutOf (1 ∷ []) tt (plain (λ κs. u32)) (λ κs. tt) ∷ SliceRefMutOf (2 ∷ []) tt (plain (λ κs. u32)) (λ κs. tt) ∷ SliceRefMutOf (3 ∷ []) tt (plain (λ κs. u64)) (λ κs. tt) ∷ SliceRefMutOf (4 ∷ []) tt (plain (λ κs. u64)) (λ κs. tt) ∷ SliceRefMutOf (5 ∷ []) tt (plain (λ κs. u64)) (λ κs. tt) ∷ plain (λ κs. u32) ∷ RefMutOf (6 ∷ []) tt (plain (λ κs. u32)) (λ κs. tt) ∷ []) (plain (λ κs. u32)) (yes, (yes, (yes, (yes, (yes, (yes, (yes, (yes, tt))))))))
 
 abbrev beneath : Ended
-beneath = record {
-  signature = record {
-    lifetimes = 5;
-    outlives = [];
-    params = plain (λ κs. T.the-row) ∷ SliceRefMutOf (0 ∷ []) tt (plain (λ κs. u32)) (λ κs. tt) ∷ SliceRefMutOf (1 ∷ []) tt (plain (λ κs. u32)) (λ κs. tt) ∷ SliceRefMutOf (2 ∷ []) tt (plain (λ κs. u64)) (λ κs. tt) ∷ SliceRefMutOf (3 ∷ []) tt (plain (λ κs. u64)) (λ κs. tt) ∷ SliceRefMutOf (4 ∷ []) tt (plain (λ κs. u64)) (λ κs. tt) ∷ plain (λ κs. u32) ∷ [];
-    result = plain (λ κs. S.the-row);
-  };
-  kept = (yes, (yes, (yes, (yes, (yes, (yes, (yes, tt)))))));
-}
+beneath = taking 5 (plain (λ κs. T.the-row) ∷ SliceRefMutOf (0 ∷ []) tt (plain (λ κs. u32)) (λ κs. tt) ∷ SliceRefMutOf (1 ∷ []) tt (plain (λ κs. u32)) (λ κs. tt) ∷ SliceRefMutOf (2 ∷ []) tt (plain (λ κs. u64)) (λ κs. tt) ∷ SliceRefMutOf (3 ∷ []) tt (plain (λ κs. u64)) (λ κs. tt) ∷ SliceRefMutOf (4 ∷ []) tt (plain (λ κs. u64)) (λ κs. tt) ∷ plain (λ κs. u32) ∷ []) (plain (λ κs. S.the-row)) (yes, (yes, (yes, (yes, (yes, (yes, (yes, tt)))))))
 
 -- the MIR of the call, by the name of the one beneath it
 abbrev function : Name → Fn
-function callee = record {
-  lifetimes = 7;
-  outlives = [];
-  params = 8;
-  locals = value (tyInt w32) ∷ value (tyRef (named 0) mut (pointee (T.the-row .written))) ∷ value (slice (named 1) mut w32) ∷ value (slice (named 2) mut w32) ∷ value (slice (named 3) mut w64) ∷ value (slice (named 4) mut w64) ∷ value (slice (named 5) mut w64) ∷ value (tyInt w32) ∷ value (tyRef (named 6) mut (tyInt w32)) ∷ value S′.mir ∷ value T′.mir ∷ value (tyRef erased mut (tyInt w32)) ∷ value (slice erased mut w32) ∷ value (tyRef erased mut (tyInt w32)) ∷ value (slice erased mut w32) ∷ value (tyRef erased mut (tyInt w64)) ∷ value (slice erased mut w64) ∷ value (tyRef erased mut (tyInt w64)) ∷ value (slice erased mut w64) ∷ value (tyRef erased mut (tyInt w64)) ∷ value (slice erased mut w64) ∷ [];
-  body = seq (assign (place 10 []) (rvOpd (copy (place 1 (deref T′.mir ∷ []))))) (lendOn 2 11 w32 (lendOn 3 13 w32 (lendOn 4 15 w64 (lendOn 5 17 w64 (lendOn 6 19 w64 (seq (call callee (copy (place 10 []) ∷ copy (place 12 []) ∷ copy (place 14 []) ∷ copy (place 16 []) ∷ copy (place 18 []) ∷ copy (place 20 []) ∷ copy (place 7 []) ∷ []) (place 9 [])) (seq (assign (place 1 (deref T′.mir ∷ [])) (rvOpd (copy (place 9 (field 0 ∷ []))))) (seq (assign (place 8 (deref (tyInt w32) ∷ [])) (rvOpd (copy (place 9 (field 2 ∷ []))))) (seq (assign (place 0 []) (rvOpd (copy (place 9 (field 1 ∷ []))))) return)))))))));
-}
+function callee = made 7 8 (value (tyInt w32) ∷ value (tyRef (named 0) mut (pointee (T.the-row .written))) ∷ value (slice (named 1) mut w32) ∷ value (slice (named 2) mut w32) ∷ value (slice (named 3) mut w64) ∷ value (slice (named 4) mut w64) ∷ value (slice (named 5) mut w64) ∷ value (tyInt w32) ∷ value (tyRef (named 6) mut (tyInt w32)) ∷ value S′.mir ∷ value T′.mir ∷ value (tyRef erased mut (tyInt w32)) ∷ value (slice erased mut w32) ∷ value (tyRef erased mut (tyInt w32)) ∷ value (slice erased mut w32) ∷ value (tyRef erased mut (tyInt w64)) ∷ value (slice erased mut w64) ∷ value (tyRef erased mut (tyInt w64)) ∷ value (slice erased mut w64) ∷ value (tyRef erased mut (tyInt w64)) ∷ value (slice erased mut w64) ∷ []) (seq (assign (place 10 []) (rvOpd (copy (place 1 (deref T′.mir ∷ []))))) (lendOn 2 11 w32 (lendOn 3 13 w32 (lendOn 4 15 w64 (lendOn 5 17 w64 (lendOn 6 19 w64 (seq (call callee (copy (place 10 []) ∷ copy (place 12 []) ∷ copy (place 14 []) ∷ copy (place 16 []) ∷ copy (place 18 []) ∷ copy (place 20 []) ∷ copy (place 7 []) ∷ []) (place 9 [])) (seq (assign (place 1 (deref T′.mir ∷ [])) (rvOpd (copy (place 9 (field 0 ∷ []))))) (seq (assign (place 8 (deref (tyInt w32) ∷ [])) (rvOpd (copy (place 9 (field 2 ∷ []))))) (seq (assign (place 0 []) (rvOpd (copy (place 9 (field 1 ∷ []))))) return))))))))))
 
 abbrev Arg : Type 0
 Arg = (RefT Processor × (RefT (List ℕ) × (RefT (List ℕ) × (RefT (List ℕ) × (RefT (List ℕ) × (RefT (List ℕ) × (ℕ × (RefT ℕ × Unit {0}))))))))
@@ -92,13 +70,6 @@ Lasts = (Unit {0} × (List ℕ × (List ℕ × (List ℕ × (List ℕ × (List �
 abbrev stayed : Stays (ended .signature .params) (ended .kept)
 stayed = (stay-ref (0 ∷ []) tt (plain (λ _. T.the-row)), (gave-slice (1 ∷ []) tt (plain (λ _. u32)), (gave-slice (2 ∷ []) tt (plain (λ _. u32)), (gave-slice (3 ∷ []) tt (plain (λ _. u64)), (gave-slice (4 ∷ []) tt (plain (λ _. u64)), (gave-slice (5 ∷ []) tt (plain (λ _. u64)), (stay-none (λ _. u32) yes, (stay-ref (6 ∷ []) tt (plain (λ _. u32)), tt))))))))
 
--- machine values
-abbrev recVal : Processor → Val
-recVal h = LL.val T.the-type T′.the-laws h
-
-abbrev ansVal : ℕ → Val
-ansVal = vint w32
-
 -- whatever is promised beneath; promised is what the call promises, and holds says that this follows
 module _ (Promise : Processor → List ℕ → List ℕ → List ℕ → List ℕ → List ℕ → ℕ → Ran → List ℕ → List ℕ → List ℕ → List ℕ → List ℕ → Type 0) {M : Type 1} (𝓤 : URA M) (H : Heap 𝓤) (A : Atoms 𝓤) (promised : (κs : Lfts 7) → Arg → ℕ → AtExit ended κs → SProp 𝓤)
     (holds : (κs : Lfts 7) (a : Arg) (s : Ran) (z0 z1 z2 z3 z4 : List ℕ) → Promise (now (a .0)) (now (a .1 .0)) (now (a .1 .1 .0)) (now (a .1 .1 .1 .0)) (now (a .1 .1 .1 .1 .0)) (now (a .1 .1 .1 .1 .1 .0)) (a .1 .1 .1 .1 .1 .1 .0) s z0 z1 z2 z3 z4 → ent 𝓤 (emp 𝓤) (promised κs a (s .answer) (atExit ended κs a (s .cpu, (z0, (z1, (z2, (z3, (z4, (tt, (s .count, tt))))))))))) where
@@ -111,37 +82,7 @@ module _ (Promise : Processor → List ℕ → List ℕ → List ℕ → List �
   abbrev Callee : Contract 𝓤
   Callee = tripleOf 𝓤 H A (beneath .signature) (closing 𝓤 H A beneath beneathClauses)
 
-  module _ (W : Given 𝓤 H A) (κ0 : Lft) (q0 : Share) (b o : ℕ) (γ : GName) (h : Processor) (κ1 : Lft) (q1 : Share) (b0 o0 : ℕ) (γ0 : GName) (y0 : List ℕ) (room0 : Room u32 (length y0)) (κ2 : Lft) (q2 : Share) (b1 o1 : ℕ) (γ1 : GName) (y1 : List ℕ) (room1 : Room u32 (length y1)) (κ3 : Lft) (q3 : Share) (b2 o2 : ℕ) (γ2 : GName) (y2 : List ℕ) (room2 : Room u64 (length y2)) (κ4 : Lft) (q4 : Share) (b3 o3 : ℕ) (γ3 : GName) (y3 : List ℕ) (room3 : Room u64 (length y3)) (κ5 : Lft) (q5 : Share) (b4 o4 : ℕ) (γ4 : GName) (y4 : List ℕ) (room4 : Room u64 (length y4)) (n5 : ℕ) (fits5 : n5 < 2 ^ 32) (κ6 : Lft) (q6 : Share) (bo oo : ℕ) (γo : GName) (ho : ℕ) where
-    abbrev x0 : RefT (List ℕ)
-    x0 = record { ptr = (b0, o0); name = γ0; now = y0 }
-
-    abbrev s0 : Val
-    s0 = sliceVal (b0, o0) (length y0)
-
-    abbrev x1 : RefT (List ℕ)
-    x1 = record { ptr = (b1, o1); name = γ1; now = y1 }
-
-    abbrev s1 : Val
-    s1 = sliceVal (b1, o1) (length y1)
-
-    abbrev x2 : RefT (List ℕ)
-    x2 = record { ptr = (b2, o2); name = γ2; now = y2 }
-
-    abbrev s2 : Val
-    s2 = sliceVal (b2, o2) (length y2)
-
-    abbrev x3 : RefT (List ℕ)
-    x3 = record { ptr = (b3, o3); name = γ3; now = y3 }
-
-    abbrev s3 : Val
-    s3 = sliceVal (b3, o3) (length y3)
-
-    abbrev x4 : RefT (List ℕ)
-    x4 = record { ptr = (b4, o4); name = γ4; now = y4 }
-
-    abbrev s4 : Val
-    s4 = sliceVal (b4, o4) (length y4)
-
+  module _ (W : Given 𝓤 H A) (κ0 : Lft) (q0 : Share) (b o : ℕ) (γ : GName) (h : Processor) (κ1 : Lft) (q1 : Share) (x0 : RefT (List ℕ)) (room0 : Room u32 (length (x0 .now))) (κ2 : Lft) (q2 : Share) (x1 : RefT (List ℕ)) (room1 : Room u32 (length (x1 .now))) (κ3 : Lft) (q3 : Share) (x2 : RefT (List ℕ)) (room2 : Room u64 (length (x2 .now))) (κ4 : Lft) (q4 : Share) (x3 : RefT (List ℕ)) (room3 : Room u64 (length (x3 .now))) (κ5 : Lft) (q5 : Share) (x4 : RefT (List ℕ)) (room4 : Room u64 (length (x4 .now))) (n5 : ℕ) (fits5 : n5 < 2 ^ 32) (κ6 : Lft) (q6 : Share) (bo oo : ℕ) (γo : GName) (ho : ℕ) where
     abbrev a : Arg
     a = (record { ptr = (b, o); name = γ; now = h }, (x0, (x1, (x2, (x3, (x4, (n5, (record { ptr = (bo, oo); name = γo; now = ho }, tt))))))))
 
@@ -149,32 +90,32 @@ module _ (Promise : Processor → List ℕ → List ℕ → List ℕ → List �
     passed = (h, (x0, (x1, (x2, (x3, (x4, (n5, tt)))))))
 
     abbrev vals : (List Val × (List Val × (List Val × (List Val × (List Val × (List Val × (List Val × (List Val × Unit {0}))))))))
-    vals = (vptr b o ∷ [], (s0 ∷ [], (s1 ∷ [], (s2 ∷ [], (s3 ∷ [], (s4 ∷ [], (vint w32 n5 ∷ [], (vptr bo oo ∷ [], tt))))))))
+    vals = (vptr b o ∷ [], ((spelled x0) ∷ [], ((spelled x1) ∷ [], ((spelled x2) ∷ [], ((spelled x3) ∷ [], ((spelled x4) ∷ [], (vint w32 n5 ∷ [], (vptr bo oo ∷ [], tt))))))))
 
     abbrev Post : Val → SProp 𝓤
     Post = walkOf 𝓤 H A ended stayed clauses .post (((κ0, (κ1, (κ2, (κ3, (κ4, (κ5, (κ6, tt))))))), (q0, (q1, (q2, (q3, (q4, (q5, (q6, tt))))))), tt, a, vals), tt)
 
     abbrev Said : Ran → Lasts → Type 0
-    Said r zs = Promise h y0 y1 y2 y3 y4 n5 r (zs .1 .0) (zs .1 .1 .0) (zs .1 .1 .1 .0) (zs .1 .1 .1 .1 .0) (zs .1 .1 .1 .1 .1 .0)
+    Said r zs = Promise h (x0 .now) (x1 .now) (x2 .now) (x3 .now) (x4 .now) n5 r (zs .1 .0) (zs .1 .1 .0) (zs .1 .1 .1 .0) (zs .1 .1 .1 .1 .0) (zs .1 .1 .1 .1 .1 .0)
 
     abbrev to-callee : Callee .Ghost
-    to-callee = (((κ1, (κ2, (κ3, (κ4, (κ5, tt))))), (q1, (q2, (q3, (q4, (q5, tt))))), tt, passed, (recVal h ∷ [], (s0 ∷ [], (s1 ∷ [], (s2 ∷ [], (s3 ∷ [], (s4 ∷ [], (vint w32 n5 ∷ [], tt)))))))), tt)
+    to-callee = (((κ1, (κ2, (κ3, (κ4, (κ5, tt))))), (q1, (q2, (q3, (q4, (q5, tt))))), tt, passed, (recVal h ∷ [], ((spelled x0) ∷ [], ((spelled x1) ∷ [], ((spelled x2) ∷ [], ((spelled x3) ∷ [], ((spelled x4) ∷ [], (vint w32 n5 ∷ [], tt)))))))), tt)
 
-    goes-callee : ent 𝓤 (⋆ 𝓤 H A (((‵ (flft κ1 q1) ⊛ ‵ (flft κ2 q2) ⊛ ‵ (flft κ3 q3) ⊛ ‵ (flft κ4 q4) ⊛ ‵ (flft κ5 q5) ⊛ ‵ ftrue) ⊛ ‵ (owns (T.the-row ∷ MutSlice (named 0) κ1 u32 ∷ MutSlice (named 1) κ2 u32 ∷ MutSlice (named 2) κ3 u64 ∷ MutSlice (named 3) κ4 u64 ∷ MutSlice (named 4) κ5 u64 ∷ u32 ∷ []) passed (recVal h ∷ [], (s0 ∷ [], (s1 ∷ [], (s2 ∷ [], (s3 ∷ [], (s4 ∷ [], (vint w32 n5 ∷ [], tt))))))))) ∷ [])) (Callee .pre to-callee)
-    goes-callee = qed W (((‵ (flft κ1 q1) ⊛ ‵ (flft κ2 q2) ⊛ ‵ (flft κ3 q3) ⊛ ‵ (flft κ4 q4) ⊛ ‵ (flft κ5 q5) ⊛ ‵ ftrue) ⊛ ‵ (owns (T.the-row ∷ MutSlice (named 0) κ1 u32 ∷ MutSlice (named 1) κ2 u32 ∷ MutSlice (named 2) κ3 u64 ∷ MutSlice (named 3) κ4 u64 ∷ MutSlice (named 4) κ5 u64 ∷ u32 ∷ []) passed (recVal h ∷ [], (s0 ∷ [], (s1 ∷ [], (s2 ∷ [], (s3 ∷ [], (s4 ∷ [], (vint w32 n5 ∷ [], tt))))))))) ∷ []) ∵ frame ! $ done !
+    goes-callee : ent 𝓤 (⋆ 𝓤 H A (((‵ (flft κ1 q1) ⊛ ‵ (flft κ2 q2) ⊛ ‵ (flft κ3 q3) ⊛ ‵ (flft κ4 q4) ⊛ ‵ (flft κ5 q5) ⊛ ‵ ftrue) ⊛ ‵ (owns (T.the-row ∷ MutSlice (named 0) κ1 u32 ∷ MutSlice (named 1) κ2 u32 ∷ MutSlice (named 2) κ3 u64 ∷ MutSlice (named 3) κ4 u64 ∷ MutSlice (named 4) κ5 u64 ∷ u32 ∷ []) passed (recVal h ∷ [], ((spelled x0) ∷ [], ((spelled x1) ∷ [], ((spelled x2) ∷ [], ((spelled x3) ∷ [], ((spelled x4) ∷ [], (vint w32 n5 ∷ [], tt))))))))) ∷ [])) (Callee .pre to-callee)
+    goes-callee = qed W (((‵ (flft κ1 q1) ⊛ ‵ (flft κ2 q2) ⊛ ‵ (flft κ3 q3) ⊛ ‵ (flft κ4 q4) ⊛ ‵ (flft κ5 q5) ⊛ ‵ ftrue) ⊛ ‵ (owns (T.the-row ∷ MutSlice (named 0) κ1 u32 ∷ MutSlice (named 1) κ2 u32 ∷ MutSlice (named 2) κ3 u64 ∷ MutSlice (named 3) κ4 u64 ∷ MutSlice (named 4) κ5 u64 ∷ u32 ∷ []) passed (recVal h ∷ [], ((spelled x0) ∷ [], ((spelled x1) ∷ [], ((spelled x2) ∷ [], ((spelled x3) ∷ [], ((spelled x4) ∷ [], (vint w32 n5 ∷ [], tt))))))))) ∷ []) ∵ frame ! $ done !
 
-    exits : (r : Ran) (zs : Lasts) → Said r zs → length (zs .1 .0) ≡ length y0 → length (zs .1 .1 .0) ≡ length y1 → length (zs .1 .1 .1 .0) ≡ length y2 → length (zs .1 .1 .1 .1 .0) ≡ length y3 → length (zs .1 .1 .1 .1 .1 .0) ≡ length y4 → Is u32 (r .answer) (ansVal (r .answer) ∷ [])
-        → ent 𝓤 (⋆ 𝓤 H A (‵ (fobs γ (T.the-row .coded .code (r .cpu))) ∷ ‵ (fbor κ0 (Body (mem T.the-row) b o γ)) ∷ ‵ (flft κ0 q0) ∷ ‵ (finally u32 γ0 (zs .1 .0)) ∷ ‵ (finally u32 γ1 (zs .1 .1 .0)) ∷ ‵ (finally u64 γ2 (zs .1 .1 .1 .0)) ∷ ‵ (finally u64 γ3 (zs .1 .1 .1 .1 .0)) ∷ ‵ (finally u64 γ4 (zs .1 .1 .1 .1 .1 .0)) ∷ (‵ (flft κ1 q1) ⊛ ‵ (flft κ2 q2) ⊛ ‵ (flft κ3 q3) ⊛ ‵ (flft κ4 q4) ⊛ ‵ (flft κ5 q5) ⊛ ‵ ftrue) ∷ ‵ (fobs γo (u32 .coded .code (r .count))) ∷ ‵ (fbor κ6 (Body (mem u32) bo oo γo)) ∷ ‵ (flft κ6 q6) ∷ [])) (Post (ansVal (r .answer)))
+    exits : (r : Ran) (zs : Lasts) → Said r zs → length (zs .1 .0) ≡ length (x0 .now) → length (zs .1 .1 .0) ≡ length (x1 .now) → length (zs .1 .1 .1 .0) ≡ length (x2 .now) → length (zs .1 .1 .1 .1 .0) ≡ length (x3 .now) → length (zs .1 .1 .1 .1 .1 .0) ≡ length (x4 .now) → Is u32 (r .answer) (ansVal (r .answer) ∷ [])
+        → ent 𝓤 (⋆ 𝓤 H A (‵ (fobs γ (T.the-row .coded .code (r .cpu))) ∷ ‵ (fbor κ0 (Body (mem T.the-row) b o γ)) ∷ ‵ (flft κ0 q0) ∷ ‵ (finally u32 (x0 .name) (zs .1 .0)) ∷ ‵ (finally u32 (x1 .name) (zs .1 .1 .0)) ∷ ‵ (finally u64 (x2 .name) (zs .1 .1 .1 .0)) ∷ ‵ (finally u64 (x3 .name) (zs .1 .1 .1 .1 .0)) ∷ ‵ (finally u64 (x4 .name) (zs .1 .1 .1 .1 .1 .0)) ∷ (‵ (flft κ1 q1) ⊛ ‵ (flft κ2 q2) ⊛ ‵ (flft κ3 q3) ⊛ ‵ (flft κ4 q4) ⊛ ‵ (flft κ5 q5) ⊛ ‵ ftrue) ∷ ‵ (fobs γo (u32 .coded .code (r .count))) ∷ ‵ (fbor κ6 (Body (mem u32) bo oo γo)) ∷ ‵ (flft κ6 q6) ∷ [])) (Post (ansVal (r .answer)))
     exits r zs e len0 len1 len2 len3 len4 fits =
-        qed W (‵ (fobs γ (T.the-row .coded .code (r .cpu))) ∷ ‵ (fbor κ0 (Body (mem T.the-row) b o γ)) ∷ ‵ (flft κ0 q0) ∷ ‵ (finally u32 γ0 (zs .1 .0)) ∷ ‵ (finally u32 γ1 (zs .1 .1 .0)) ∷ ‵ (finally u64 γ2 (zs .1 .1 .1 .0)) ∷ ‵ (finally u64 γ3 (zs .1 .1 .1 .1 .0)) ∷ ‵ (finally u64 γ4 (zs .1 .1 .1 .1 .1 .0)) ∷ (‵ (flft κ1 q1) ⊛ ‵ (flft κ2 q2) ⊛ ‵ (flft κ3 q3) ⊛ ‵ (flft κ4 q4) ⊛ ‵ (flft κ5 q5) ⊛ ‵ ftrue) ∷ ‵ (fobs γo (u32 .coded .code (r .count))) ∷ ‵ (fbor κ6 (Body (mem u32) bo oo γo)) ∷ ‵ (flft κ6 q6) ∷ []) ∵
+        qed W (‵ (fobs γ (T.the-row .coded .code (r .cpu))) ∷ ‵ (fbor κ0 (Body (mem T.the-row) b o γ)) ∷ ‵ (flft κ0 q0) ∷ ‵ (finally u32 (x0 .name) (zs .1 .0)) ∷ ‵ (finally u32 (x1 .name) (zs .1 .1 .0)) ∷ ‵ (finally u64 (x2 .name) (zs .1 .1 .1 .0)) ∷ ‵ (finally u64 (x3 .name) (zs .1 .1 .1 .1 .0)) ∷ ‵ (finally u64 (x4 .name) (zs .1 .1 .1 .1 .1 .0)) ∷ (‵ (flft κ1 q1) ⊛ ‵ (flft κ2 q2) ⊛ ‵ (flft κ3 q3) ⊛ ‵ (flft κ4 q4) ⊛ ‵ (flft κ5 q5) ⊛ ‵ ftrue) ∷ ‵ (fobs γo (u32 .coded .code (r .count))) ∷ ‵ (fbor κ6 (Body (mem u32) bo oo γo)) ∷ ‵ (flft κ6 q6) ∷ []) ∵
         suffices ! _ (ends-at 𝓤 H A ended stayed clauses W (((κ0, (κ1, (κ2, (κ3, (κ4, (κ5, (κ6, tt))))))), (q0, (q1, (q2, (q3, (q4, (q5, (q6, tt))))))), tt, a, vals), tt) (ansVal (r .answer)) (r .answer) (r .cpu, (zs .1 .0, (zs .1 .1 .0, (zs .1 .1 .1 .0, (zs .1 .1 .1 .1 .0, (zs .1 .1 .1 .1 .1 .0, (tt, (r .count, tt)))))))) (tt, (len0, (len1, (len2, (len3, (len4, (tt, (tt, tt))))))))) $
         vouched ! (holds (κ0, (κ1, (κ2, (κ3, (κ4, (κ5, (κ6, tt))))))) a r (zs .1 .0) (zs .1 .1 .0) (zs .1 .1 .1 .0) (zs .1 .1 .1 .1 .0) (zs .1 .1 .1 .1 .1 .0) e) $ move ! (8 ∷ []) $ split ! $ move ! (1 ∷ []) $ split ! $ move ! (1 ∷ []) $ split ! $ move ! (1 ∷ []) $ split ! $ move ! (1 ∷ []) $ split ! $ move ! (1 ∷ []) $ move ! (16 ∷ 0 ∷ []) $ join ! $ move ! (1 ∷ 0 ∷ []) $ join ! $ move ! (1 ∷ 0 ∷ []) $ join ! $ move ! (1 ∷ 0 ∷ []) $ join ! $ move ! (1 ∷ 0 ∷ []) $ join ! $ move ! (1 ∷ 0 ∷ []) $ join ! $ move ! (3 ∷ 0 ∷ []) $ join ! $ frame ! $ feqI ! (List Val) (vptr b o ∷ []) (vptr b o ∷ []) refl $ move ! (0 ∷ 1 ∷ 2 ∷ []) $ fjoin3 ! $ feqI ! (List Val) (vptr bo oo ∷ []) (vptr bo oo ∷ []) refl $ move ! (0 ∷ 7 ∷ 8 ∷ []) $ fjoin3 ! $ nothing ! $ move ! (1 ∷ 0 ∷ []) $ fjoin ! $ owned ! u32 (Is u32) (uint-makes 𝓤 H A W w32) n5 _ (refl, fits5) $ fjoin ! $ move ! (6 ∷ 0 ∷ []) $ fjoin ! $ move ! (5 ∷ 0 ∷ []) $ fjoin ! $ move ! (4 ∷ 0 ∷ []) $ fjoin ! $ move ! (3 ∷ 0 ∷ []) $ fjoin ! $ move ! (2 ∷ 0 ∷ []) $ fjoin ! $ move ! (1 ∷ 0 ∷ []) $ fjoin ! $ frame ! $ owned ! u32 (Is u32) (uint-makes 𝓤 H A W w32) (r .answer) _ fits $ done !
 
     module _ (callee : Name) (C : Calls 𝓤 H) (Λ : Loops 𝓤 H) (fm : FmC 𝓤 H (W .laws) C) (known : Triple 𝓤 (C callee) Callee) where
-      walk : ent 𝓤 (onEntry 𝓤 H A (ended .signature) (κ0, (κ1, (κ2, (κ3, (κ4, (κ5, (κ6, tt))))))) (q0, (q1, (q2, (q3, (q4, (q5, (q6, tt))))))) a vals) (WpFn 𝓤 H C Λ (function callee) (vptr b o ∷ s0 ∷ s1 ∷ s2 ∷ s3 ∷ s4 ∷ vint w32 n5 ∷ vptr bo oo ∷ []) Post)
+      walk : ent 𝓤 (onEntry 𝓤 H A (ended .signature) (κ0, (κ1, (κ2, (κ3, (κ4, (κ5, (κ6, tt))))))) (q0, (q1, (q2, (q3, (q4, (q5, (q6, tt))))))) a vals) (WpFn 𝓤 H C Λ (function callee) (vptr b o ∷ (spelled x0) ∷ (spelled x1) ∷ (spelled x2) ∷ (spelled x3) ∷ (spelled x4) ∷ vint w32 n5 ∷ vptr bo oo ∷ []) Post)
       walk =
           qed W ((‵ (flft κ0 q0) ⊛ ‵ (flft κ1 q1) ⊛ ‵ (flft κ2 q2) ⊛ ‵ (flft κ3 q3) ⊛ ‵ (flft κ4 q4) ⊛ ‵ (flft κ5 q5) ⊛ ‵ (flft κ6 q6) ⊛ ‵ ftrue) ∷ ‵ (owns (MutRef (named 0) κ0 T.the-row ∷ MutSlice (named 1) κ1 u32 ∷ MutSlice (named 2) κ2 u32 ∷ MutSlice (named 3) κ3 u64 ∷ MutSlice (named 4) κ4 u64 ∷ MutSlice (named 5) κ5 u64 ∷ u32 ∷ MutRef (named 6) κ6 u32 ∷ []) a vals) ∷ []) ∵
-          enter ! C Λ (function callee) (vptr b o ∷ s0 ∷ s1 ∷ s2 ∷ s3 ∷ s4 ∷ vint w32 n5 ∷ vptr bo oo ∷ []) _ $ alloc1 ! (λ l0. alloc1 ! (λ l1. alloc1 ! (λ l2. alloc1 ! (λ l3. alloc1 ! (λ l4. alloc1 ! (λ l5. alloc1 ! (λ l6. alloc1 ! (λ l7. alloc1 ! (λ l8. alloc1 ! (λ l9. alloc1 ! (λ l10. alloc1 ! (λ l11. alloc1 ! (λ l12. alloc1 ! (λ l13. alloc1 ! (λ l14. alloc1 ! (λ l15. alloc1 ! (λ l16. alloc1 ! (λ l17. alloc1 ! (λ l18. alloc1 ! (λ l19. alloc1 ! (λ l20. alloc0 ! $ params1 ! $ pass1 ! (init ! 38 refl (tt, tt)) $ pass1 ! (init ! 36 refl (tt, (tt, (record { fits = room0 .0 }, tt)))) $ pass1 ! (init ! 34 refl (tt, (tt, (record { fits = room1 .0 }, tt)))) $ pass1 ! (init ! 32 refl (tt, (tt, (record { fits = room2 .0 }, tt)))) $ pass1 ! (init ! 30 refl (tt, (tt, (record { fits = room3 .0 }, tt)))) $ pass1 ! (init ! 28 refl (tt, (tt, (record { fits = room4 .0 }, tt)))) $ pass1 ! (init ! 26 refl (tt, record { fits = fits5 })) $ pass1 ! (init ! 24 refl (tt, tt)) $ pass0 ! $ move ! (43 ∷ []) $ fsplit ! $ fsplit3 ! $ drop ! $ move ! (2 ∷ []) $ fsplit ! $ move ! (1 ∷ []) $ fsplit ! $ move ! (1 ∷ []) $ fsplit ! $ move ! (1 ∷ []) $ fsplit ! $ move ! (1 ∷ []) $ fsplit ! $ move ! (1 ∷ []) $ fsplit ! $ drop ! $ move ! (0 ∷ []) $ fsplit ! $ fsplit3 ! $ drop ! $ move ! (52 ∷ []) $ split ! $ move ! (1 ∷ []) $ split ! $ move ! (1 ∷ []) $ split ! $ move ! (1 ∷ []) $ split ! $ move ! (1 ∷ []) $ split ! $ move ! (1 ∷ []) $ split ! $ move ! (1 ∷ []) $ split ! $ move ! (2 ∷ 1 ∷ []) $ join ! $ move ! (2 ∷ 0 ∷ []) $ join ! $ move ! (2 ∷ 0 ∷ []) $ join ! $ move ! (2 ∷ 0 ∷ []) $ join ! $ move ! (2 ∷ 0 ∷ []) $ join ! $ move ! (11 ∷ 12 ∷ 2 ∷ []) $
+          enter ! C Λ (function callee) (vptr b o ∷ (spelled x0) ∷ (spelled x1) ∷ (spelled x2) ∷ (spelled x3) ∷ (spelled x4) ∷ vint w32 n5 ∷ vptr bo oo ∷ []) _ $ alloc1 ! (λ l0. alloc1 ! (λ l1. alloc1 ! (λ l2. alloc1 ! (λ l3. alloc1 ! (λ l4. alloc1 ! (λ l5. alloc1 ! (λ l6. alloc1 ! (λ l7. alloc1 ! (λ l8. alloc1 ! (λ l9. alloc1 ! (λ l10. alloc1 ! (λ l11. alloc1 ! (λ l12. alloc1 ! (λ l13. alloc1 ! (λ l14. alloc1 ! (λ l15. alloc1 ! (λ l16. alloc1 ! (λ l17. alloc1 ! (λ l18. alloc1 ! (λ l19. alloc1 ! (λ l20. alloc0 ! $ params1 ! $ pass1 ! (init ! 38 refl (tt, tt)) $ pass1 ! (init ! 36 refl (tt, (tt, (record { fits = room0 .0 }, tt)))) $ pass1 ! (init ! 34 refl (tt, (tt, (record { fits = room1 .0 }, tt)))) $ pass1 ! (init ! 32 refl (tt, (tt, (record { fits = room2 .0 }, tt)))) $ pass1 ! (init ! 30 refl (tt, (tt, (record { fits = room3 .0 }, tt)))) $ pass1 ! (init ! 28 refl (tt, (tt, (record { fits = room4 .0 }, tt)))) $ pass1 ! (init ! 26 refl (tt, record { fits = fits5 })) $ pass1 ! (init ! 24 refl (tt, tt)) $ pass0 ! $ move ! (43 ∷ []) $ fsplit ! $ fsplit3 ! $ drop ! $ move ! (2 ∷ []) $ fsplit ! $ move ! (1 ∷ []) $ fsplit ! $ move ! (1 ∷ []) $ fsplit ! $ move ! (1 ∷ []) $ fsplit ! $ move ! (1 ∷ []) $ fsplit ! $ move ! (1 ∷ []) $ fsplit ! $ drop ! $ move ! (0 ∷ []) $ fsplit ! $ fsplit3 ! $ drop ! $ move ! (52 ∷ []) $ split ! $ move ! (1 ∷ []) $ split ! $ move ! (1 ∷ []) $ split ! $ move ! (1 ∷ []) $ split ! $ move ! (1 ∷ []) $ split ! $ move ! (1 ∷ []) $ split ! $ move ! (1 ∷ []) $ split ! $ move ! (2 ∷ 1 ∷ []) $ join ! $ move ! (2 ∷ 0 ∷ []) $ join ! $ move ! (2 ∷ 0 ∷ []) $ join ! $ move ! (2 ∷ 0 ∷ []) $ join ! $ move ! (2 ∷ 0 ∷ []) $ join ! $ move ! (11 ∷ 12 ∷ 2 ∷ []) $
           opens ! tt T.the-row {h = h} b o (λ vs. spelt ! T.the-row (Is T.the-row) (shows 𝓤 H A T.the-row) (LL.vals T.the-type T′.the-laws) (LL.tells T.the-type T′.the-laws) fullShare h vs b o $ move ! (1 ∷ []) $ peeks ! T.the-row (Is T.the-row) (shows 𝓤 H A T.the-row) h (recVal h ∷ []) (λ was. move ! (1 ∷ 0 ∷ []) $
           -- [cell; own; obor; obs; auth; alive; tok6; obso; boro; owns; own4; own3; own2; own1; own0; _v4; _a4; _v3; _a3; _v2; _a2; _v1; _a1; _v0; _a0; _r; _s; _po; _p5; _p4; _p3; _p2; _p1; _p0; _1; _0]
           assigns ! (of-opd ! (load ! (from ! (hop ! (look ! 53 refl) (stop !))) (look-raw ! 0 refl))) (from ! (stop !)) (init ! 35 refl (LL.lawful T.the-type T′.the-laws 𝓤 H A W .typed h _ was .0)) $
@@ -205,7 +146,7 @@ module _ (Promise : Processor → List ℕ → List ℕ → List ℕ → List �
     walks : (C : Calls 𝓤 H) (Λ : Loops 𝓤 H) → FmC 𝓤 H (W .laws) C → Triple 𝓤 (C callee) Callee → Walks 𝓤 H A ended stayed (WpFn 𝓤 H C Λ (function callee)) clauses
     walks C Λ fm known = walked 𝓤 H A ended stayed clauses (WpFn 𝓤 H C Λ (function callee)) (λ κs. (ptr-vals, (slice-vals, (slice-vals, (slice-vals, (slice-vals, (slice-vals, (uint-vals w32, (ptr-vals, tt)))))))))
         (λ κs. (mut-tells (named 0) (κs .0) T.the-row, (mut-slice-tells (named 1) (κs .1 .0) u32, (mut-slice-tells (named 2) (κs .1 .1 .0) u32, (mut-slice-tells (named 3) (κs .1 .1 .1 .0) u64, (mut-slice-tells (named 4) (κs .1 .1 .1 .1 .0) u64, (mut-slice-tells (named 5) (κs .1 .1 .1 .1 .1 .0) u64, (uint-tells w32, (mut-tells (named 6) (κs .1 .1 .1 .1 .1 .1 .0) u32, tt)))))))))
-        (λ κs qs bounds a _ are. via 𝓤 _ (fst∗ 𝓤 _ (emp 𝓤)) (walk W (κs .0) (qs .0) (a .0 .ptr .0) (a .0 .ptr .1) (a .0 .name) (a .0 .now) (κs .1 .0) (qs .1 .0) (a .1 .0 .ptr .0) (a .1 .0 .ptr .1) (a .1 .0 .name) (a .1 .0 .now) (are .1 .0 .0 .1) (κs .1 .1 .0) (qs .1 .1 .0) (a .1 .1 .0 .ptr .0) (a .1 .1 .0 .ptr .1) (a .1 .1 .0 .name) (a .1 .1 .0 .now) (are .1 .1 .0 .0 .1) (κs .1 .1 .1 .0) (qs .1 .1 .1 .0) (a .1 .1 .1 .0 .ptr .0) (a .1 .1 .1 .0 .ptr .1) (a .1 .1 .1 .0 .name) (a .1 .1 .1 .0 .now) (are .1 .1 .1 .0 .0 .1) (κs .1 .1 .1 .1 .0) (qs .1 .1 .1 .1 .0) (a .1 .1 .1 .1 .0 .ptr .0) (a .1 .1 .1 .1 .0 .ptr .1) (a .1 .1 .1 .1 .0 .name) (a .1 .1 .1 .1 .0 .now) (are .1 .1 .1 .1 .0 .0 .1) (κs .1 .1 .1 .1 .1 .0) (qs .1 .1 .1 .1 .1 .0) (a .1 .1 .1 .1 .1 .0 .ptr .0) (a .1 .1 .1 .1 .1 .0 .ptr .1) (a .1 .1 .1 .1 .1 .0 .name) (a .1 .1 .1 .1 .1 .0 .now) (are .1 .1 .1 .1 .1 .0 .0 .1) (a .1 .1 .1 .1 .1 .1 .0) (are .1 .1 .1 .1 .1 .1 .0 .1) (κs .1 .1 .1 .1 .1 .1 .0) (qs .1 .1 .1 .1 .1 .1 .0) (a .1 .1 .1 .1 .1 .1 .1 .0 .ptr .0) (a .1 .1 .1 .1 .1 .1 .1 .0 .ptr .1) (a .1 .1 .1 .1 .1 .1 .1 .0 .name) (a .1 .1 .1 .1 .1 .1 .1 .0 .now) callee C Λ fm known))
+        (λ κs qs bounds a _ are. via 𝓤 _ (fst∗ 𝓤 _ (emp 𝓤)) (walk W (κs .0) (qs .0) (a .0 .ptr .0) (a .0 .ptr .1) (a .0 .name) (a .0 .now) (κs .1 .0) (qs .1 .0) (a .1 .0) (are .1 .0 .0 .1) (κs .1 .1 .0) (qs .1 .1 .0) (a .1 .1 .0) (are .1 .1 .0 .0 .1) (κs .1 .1 .1 .0) (qs .1 .1 .1 .0) (a .1 .1 .1 .0) (are .1 .1 .1 .0 .0 .1) (κs .1 .1 .1 .1 .0) (qs .1 .1 .1 .1 .0) (a .1 .1 .1 .1 .0) (are .1 .1 .1 .1 .0 .0 .1) (κs .1 .1 .1 .1 .1 .0) (qs .1 .1 .1 .1 .1 .0) (a .1 .1 .1 .1 .1 .0) (are .1 .1 .1 .1 .1 .0 .0 .1) (a .1 .1 .1 .1 .1 .1 .0) (are .1 .1 .1 .1 .1 .1 .0 .1) (κs .1 .1 .1 .1 .1 .1 .0) (qs .1 .1 .1 .1 .1 .1 .0) (a .1 .1 .1 .1 .1 .1 .1 .0 .ptr .0) (a .1 .1 .1 .1 .1 .1 .1 .0 .ptr .1) (a .1 .1 .1 .1 .1 .1 .1 .0 .name) (a .1 .1 .1 .1 .1 .1 .1 .0 .now) callee C Λ fm known))
 
     pub meets : (𝓣 : Tables 𝓤 H) → Triple 𝓤 (𝓣 .C callee) Callee
         → Meets 𝓤 H A (ended .signature) (WpFn 𝓤 H (𝓣 .C) (𝓣 .Λ) (function callee)) (closing 𝓤 H A ended clauses)

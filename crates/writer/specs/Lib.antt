@@ -1,4 +1,4 @@
 -- ---- laws of writing an image, and what the writer promises
-pub mod Promises
+pub mod Views
 pub mod Stores
 pub mod Writing

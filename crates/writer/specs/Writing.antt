@@ -9,8 +9,9 @@ use lib.Dec.{leb, ltb}
 use lib.ListN.{length, take, length-append}
 use lib.Seq.{sets, take-all}
 use Rattle.common.specs.Answers as answer
+use Rattle.common.specs.Tables.{firstOf}
 use Rattle.common.specs.Laws.Tests.{both}
-use Rattle.rules.specs.Images.{section, listed, imageBytes, over, writeVerdict, write}
+use Rattle.rules.specs.Images.{section, listed, imageBytes, over, writeChecks, writeVerdict, write}
 use Rattle.images.specs.Accepted.{passed}
 use Rattle.images.specs.Listed.{listed-take}
 use Rattle.images.specs.Sections.{length-section, length-image}
@@ -20,17 +21,17 @@ use Rattle.images.specs.Stores.{sets-then, sets-over}
 
 module _ (words regs : List ℕ) (entry : ℕ) (out : List ℕ) where
   pub no-words : length words < 1 → answer.bad-size ≡ writeVerdict words regs entry out
-  unfolding writeVerdict
+  unfolding writeVerdict writeChecks firstOf
   no-words h = simp (lt-leb 1 (length words) h)
 
   module _ (l : 1 ≤ length words) where
     pub many-words : 2048 < length words → answer.bad-size ≡ writeVerdict words regs entry out
-    unfolding writeVerdict
+    unfolding writeVerdict writeChecks firstOf
     many-words h = simp (le-leb 1 (length words) l, lt-leb (length words) 2048 h)
 
     module _ (m : length words ≤ 2048) where
       pub bad-entry : length words ≤ entry → answer.bad-entry ≡ writeVerdict words regs entry out
-      unfolding writeVerdict
+      unfolding writeVerdict writeChecks firstOf
       bad-entry h = simp (le-leb 1 (length words) l, le-leb (length words) 2048 m, le-ltb entry (length words) h)
 
       module _ (b : entry < length words) (k : ℕ) (e : k ≡ length (listed regs)) where
@@ -38,13 +39,13 @@ module _ (words regs : List ℕ) (entry : ℕ) (out : List ℕ) where
         long = ap (λ (x : ℕ). 16 + 4 * length words + 4 * x) e ∙ sym (length-image words regs entry)
 
         pub short-buffer : length out < 16 + 4 * length words + 4 * k → answer.short-buffer ≡ writeVerdict words regs entry out
-        unfolding writeVerdict
+        unfolding writeVerdict writeChecks firstOf
         short-buffer h =
             let g = long in
             simp (le-leb 1 (length words) l, le-leb (length words) 2048 m, lt-ltb entry (length words) b, lt-leb (length (imageBytes words regs entry)) (length out) (omega arith))
 
         pub has-room : 16 + 4 * length words + 4 * k ≤ length out → answer.done ≡ writeVerdict words regs entry out
-        unfolding writeVerdict
+        unfolding writeVerdict writeChecks firstOf
         has-room h =
             let g = long in
             simp (le-leb 1 (length words) l, le-leb (length words) 2048 m, lt-ltb entry (length words) b, le-leb (length (imageBytes words regs entry)) (length out) (omega arith))
@@ -60,7 +61,7 @@ module _ (words regs : List ℕ) (entry : ℕ) (out : List ℕ) (v : ℕ) (e : v
 
   module _ (z : v ≡ 0) where
     pub fits : (length words ≤ 2048) × (length (imageBytes words regs entry) ≤ length out)
-    unfolding writeVerdict
+    unfolding writeVerdict writeChecks firstOf
     fits =
         let size = passed (leb 1 (length words) && leb (length words) 2048) _ 21 (omega arith) (sym e ∙ z) in
         let entry-in = passed (ltb entry (length words)) _ 25 (omega arith) (size .1) in

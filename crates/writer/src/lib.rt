@@ -6,7 +6,7 @@ ghost use mathlib.Core.Path.{_≡_};
 ghost use Prim.Native.Nat.{_≤_};
 ghost use lib.ListN.{length};
 ghost use Rattle.rules.specs.Images.{imageBytes, over, writeVerdict, write};
-ghost use Rattle.writer.specs.Promises.{writtenOf};
+ghost use Rattle.writer.specs.Views.{writtenOf};
 use crate::sections::listed_count;
 use crate::sections::put_section;
 

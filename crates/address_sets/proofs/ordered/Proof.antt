@@ -3,7 +3,6 @@ use mathlib.Core.Bool.{true}
 use mathlib.Core.Path.{_≡_, sym}
 use Prim.Native.Nat.{_+_, _-_, _≤_}
 use native.Mathlib.Omega.{arith}
-use borrow.Author.Needs.{needs}
 use borrow.Author.Tests.{le-ltb, lt-ltb}
 use Rattle.common.specs.AddressSets.{pairsAt, ordered}
 use Rattle.address_sets.specs.SetLaws.{every-ordered, every-none, every-more, every-not, every-all}
@@ -16,26 +15,14 @@ Inv-loop words q k j₀ j = (j ≤ k) × (ordered (pairsAt words (q + 1) j) ≡ 
 abbrev μ-loop : tie.MeasureT-loop
 μ-loop words q k j₀ j = k - j
 
-word-requires : tie.Need-word-requires Inv-loop μ-loop
-word-requires c κs = search needs
-
-loop-holds : tie.Need-loop-holds Inv-loop μ-loop
-loop-holds c = (omega arith, every-none every-ordered _ _)
-
-pair-at-requires : tie.Need-pair-at-requires Inv-loop μ-loop
-pair-at-requires c κs = search needs
-
 returns : tie.Need-returns Inv-loop μ-loop
 returns c = sym (every-not every-ordered _ _ _ _ (c .before .before .pair-at .ensures) (omega arith) (le-ltb _ _ (c .if1 .taken)))
 
-add-j : tie.Need-add-j Inv-loop μ-loop
-add-j c = omega arith
-
-loop-less : tie.Need-loop-less Inv-loop μ-loop
-loop-less c = omega arith
-
 loop-again : tie.Need-loop-again Inv-loop μ-loop
 loop-again c = (omega arith, every-more every-ordered _ _ _ _ (c .before .before .pair-at .ensures) (lt-ltb _ _ (c .if1 .left)) (c .before .before .before .before .loop .inv .1))
+
+loop-holds : tie.Need-loop-holds Inv-loop μ-loop
+loop-holds c = (omega arith, every-none every-ordered _ _)
 
 returns-2 : tie.Need-returns-2 Inv-loop μ-loop
 returns-2 c = sym (every-all every-ordered _ _ _ (omega arith) (c .before .loop .inv .1))
@@ -43,14 +30,4 @@ returns-2 c = sym (every-all every-ordered _ _ _ (omega arith) (c .before .loop 
 pub ordered-spec : {M : Type 1} → statement M
 ordered-spec =
     tie.close
-    (tie.spec
-    Inv-loop
-    μ-loop
-    word-requires
-    loop-holds
-    pair-at-requires
-    returns
-    add-j
-    loop-less
-    loop-again
-    returns-2)
+    (tie.spec Inv-loop μ-loop _ loop-holds _ returns (λ c. omega arith) (λ c. omega arith) loop-again returns-2)

@@ -7,35 +7,8 @@ use borrow.Author.Needs.{needs}
 use Rattle.arithmetic.proofs.arith.Statement.{statement}
 use Rattle.arithmetic.proofs.arith.Tie as tie
 
-wrapping-add-u32-requires : tie.Need-wrapping-add-u32-requires
-wrapping-add-u32-requires c κs = search needs
-
-wrapping-sub-u32-requires : tie.Need-wrapping-sub-u32-requires
-wrapping-sub-u32-requires c κs = search needs
-
-mul-result : tie.Need-mul-result
-mul-result c = record { fits = product-fits 32 (omega arith) (omega arith) }
-
-cast-result : tie.Need-cast-result
-cast-result c = search needs
-
-pick-requires : tie.Need-pick-requires
-pick-requires c κs = search needs
-
-pick-requires-2 : tie.Need-pick-requires-2
-pick-requires-2 c κs = search needs
-
-pick-requires-3 : tie.Need-pick-requires-3
-pick-requires-3 c κs = search needs
-
-returns : tie.Need-returns
-returns c = is-sum _ _ _ _ (c .before .match .keys1) (c .wrapping-add-u32 .ensures)
-
 returns-2 : tie.Need-returns-2
 returns-2 c = is-difference _ _ _ _ (c .before .match .keys2) (omega arith) (omega arith) (omega arith) (c .wrapping-sub-u32 .ensures)
-
-returns-3 : tie.Need-returns-3
-returns-3 c = is-product _ _ _ _ (c .match .keys3) refl
 
 returns-4 : tie.Need-returns-4
 returns-4 c = is-comparison _ _ _ _ (c .before .before .before .match .rest .0 .0 .1) (c .before .before .before .match .rest .0 .1) (c .before .before .before .match .rest .1) _ (c .before .before .pick .ensures) _ (c .before .pick2 .ensures) (c .pick3 .ensures)
@@ -43,15 +16,6 @@ returns-4 c = is-comparison _ _ _ _ (c .before .before .before .match .rest .0 .
 pub arith-spec : {M : Type 1} → statement M
 arith-spec =
     tie.close
-    (tie.spec
-    wrapping-add-u32-requires
-    wrapping-sub-u32-requires
-    mul-result
-    cast-result
-    pick-requires
-    pick-requires-2
-    pick-requires-3
-    returns
-    returns-2
-    returns-3
-    returns-4)
+    (tie.spec _ _ (λ c. record { fits = product-fits 32 (omega arith) (omega arith) }) (λ c. search needs) _ _ _
+    (λ c. is-sum _ _ _ _ (c .before .match .keys1) (c .wrapping-add-u32 .ensures)) returns-2
+    (λ c. is-product _ _ _ _ (c .match .keys3) refl) returns-4)

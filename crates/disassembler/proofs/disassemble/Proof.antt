@@ -4,25 +4,11 @@ use borrow.Author.Needs.{needs}
 use Rattle.disassembler.proofs.disassemble.Statement.{statement}
 use Rattle.disassembler.proofs.disassemble.Tie as tie
 
-verdict-requires : tie.Need-verdict-requires
-verdict-requires c κs = search needs
-
-same-length : tie.Need-same-length
-same-length c = search needs
-
-returns : tie.Need-returns
-returns c = refuses _ _ _ (c .before .verdict .ensures) (c .if1 .taken)
-
-store-listing-requires : tie.Need-store-listing-requires
-store-listing-requires c κs = fits _ _ _ (c .before .before .verdict .ensures) (c .before .if1 .left)
-
-same-length-2 : tie.Need-same-length-2
-same-length-2 c = search needs
-
 returns-2 : tie.Need-returns-2
 returns-2 c = writes _ _ _ (c .before .before .before .before .before .verdict .ensures) (c .before .before .before .before .if1 .left) _ _ (c .before .before .store-listing .ensures)
 
 pub disassemble-spec : {M : Type 1} → statement M
 disassemble-spec =
     tie.close
-    (tie.spec verdict-requires same-length returns store-listing-requires same-length-2 returns-2)
+    (tie.spec _ (λ c. search needs) (λ c. refuses _ _ _ (c .before .verdict .ensures) (c .if1 .taken))
+    (λ c κs. fits _ _ _ (c .before .before .verdict .ensures) (c .before .if1 .left)) (λ c. search needs) returns-2)

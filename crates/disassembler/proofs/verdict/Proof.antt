@@ -5,15 +5,6 @@ use borrow.Author.Needs.{needs}
 use Rattle.disassembler.proofs.verdict.Statement.{statement}
 use Rattle.disassembler.proofs.verdict.Tie as tie
 
-returns : tie.Need-returns
-returns c = no-words _ _ (c .if1 .taken)
-
-returns-2 : tie.Need-returns-2
-returns-2 c = many-words _ _ (c .if2 .taken)
-
-has-room-requires : tie.Need-has-room-requires
-has-room-requires c κs = search needs
-
 returns-3 : tie.Need-returns-3
 returns-3 c = short-buffer _ _ (c .before .before .before .if1 .left) (c .before .before .if2 .left) _ (c .before .has-room .ensures) (not-true _ (c .if3 .taken))
 
@@ -21,4 +12,6 @@ returns-4 : tie.Need-returns-4
 returns-4 c = has-room _ _ (c .before .before .before .if1 .left) (c .before .before .if2 .left) _ (c .before .has-room .ensures) (not-false _ (c .if3 .left))
 
 pub verdict-spec : {M : Type 1} → statement M
-verdict-spec = tie.close (tie.spec returns returns-2 has-room-requires returns-3 returns-4)
+verdict-spec =
+    tie.close
+    (tie.spec (λ c. no-words _ _ (c .if1 .taken)) (λ c. many-words _ _ (c .if2 .taken)) (λ c κs. search needs) returns-3 returns-4)

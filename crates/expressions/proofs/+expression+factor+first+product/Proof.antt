@@ -99,26 +99,8 @@ module _ (t : ℕ) where
   abbrev product-claims : product-lts.Claims
   product-claims = (factor-below t, factor.Post, token-reads.Asked, token-reads.Learnt, multiplied-reads.Asked, multiplied-reads.Learnt)
 
-  expression-first-requires : expression-lts.Need-first-requires expression-claims (expression-at t) expression.Post expression-Inv-loop expression-μ-loop
-  expression-first-requires c κs = (omega arith, tt)
-
-  expression-loop-holds : expression-lts.Need-loop-holds expression-claims (expression-at t) expression.Post expression-Inv-loop expression-μ-loop
-  expression-loop-holds c = sum-starts _ _ _ _ _ _ (c .first .ensures)
-
-  expression-token-requires : expression-lts.Need-token-requires expression-claims (expression-at t) expression.Post expression-Inv-loop expression-μ-loop
-  expression-token-requires c κs = tt
-
-  expression-sign-requires : expression-lts.Need-sign-requires expression-claims (expression-at t) expression.Post expression-Inv-loop expression-μ-loop
-  expression-sign-requires c κs = tt
-
   expression-returns : expression-lts.Need-returns expression-claims (expression-at t) expression.Post expression-Inv-loop expression-μ-loop
   expression-returns c = left-ends _ _ _ _ _ _ (c .before .before .before .if1 .taken) _ (c .before .before .token .ensures) (sym (c .before .sign .ensures) ∙ not-true _ (c .if2 .taken)) (c .before .before .before .before .before .loop .inv)
-
-  expression-product-requires : expression-lts.Need-product-requires expression-claims (expression-at t) expression.Post expression-Inv-loop expression-μ-loop
-  expression-product-requires c κs = (omega arith, tt)
-
-  expression-added-requires : expression-lts.Need-added-requires expression-claims (expression-at t) expression.Post expression-Inv-loop expression-μ-loop
-  expression-added-requires c κs = tt
 
   expression-loop-less : expression-lts.Need-loop-less expression-claims (expression-at t) expression.Post expression-Inv-loop expression-μ-loop
   expression-loop-less c = sum-falls _ _ _ _ _ _ _ _ (c .before .before .before .before .token .ensures) (sym (c .before .before .before .sign .ensures) ∙ not-false _ (c .before .before .if2 .left)) (c .before .product .ensures) (c .added .ensures)
@@ -126,98 +108,29 @@ module _ (t : ℕ) where
   expression-loop-again : expression-lts.Need-loop-again expression-claims (expression-at t) expression.Post expression-Inv-loop expression-μ-loop
   expression-loop-again c = sum-again _ _ _ _ _ _ _ _ (c .before .before .before .before .token .ensures) (sym (c .before .before .before .sign .ensures) ∙ not-false _ (c .before .before .if2 .left)) (c .before .product .ensures) (c .added .ensures) (c .before .before .before .before .before .if1 .taken) _ (c .before .before .before .before .before .before .before .loop .inv)
 
-  expression-returns-2 : expression-lts.Need-returns-2 expression-claims (expression-at t) expression.Post expression-Inv-loop expression-μ-loop
-  expression-returns-2 c = left-refused _ _ _ _ _ _ (c .if1 .left) (c .before .before .loop .inv)
-
-  factor-token-requires : factor-lts.Need-token-requires factor-claims (factor-at t) factor.Post
-  factor-token-requires c κs = tt
-
-  factor-number-requires : factor-lts.Need-number-requires factor-claims (factor-at t) factor.Post
-  factor-number-requires c κs = tt
-
-  factor-read-requires : factor-lts.Need-read-requires factor-claims (factor-at t) factor.Post
-  factor-read-requires c κs = tt
-
   factor-returns : factor-lts.Need-returns factor-claims (factor-at t) factor.Post
   factor-returns c = factor-number _ _ _ _ _ _ (c .before .before .before .token .ensures) _ (c .before .before .if1 .taken) _ (c .before .number .ensures) (c .read .ensures)
-
-  factor-label-requires : factor-lts.Need-label-requires factor-claims (factor-at t) factor.Post
-  factor-label-requires c κs = tt
-
-  factor-read-requires-2 : factor-lts.Need-read-requires-2 factor-claims (factor-at t) factor.Post
-  factor-read-requires-2 c κs = tt
 
   factor-returns-2 : factor-lts.Need-returns-2 factor-claims (factor-at t) factor.Post
   factor-returns-2 c = factor-name _ _ _ _ _ _ (c .before .before .before .before .token .ensures) _ (c .before .before .before .if1 .left) (c .before .before .if2 .taken) _ (c .before .label .ensures) (c .read2 .ensures)
 
-  factor-number-requires-2 : factor-lts.Need-number-requires-2 factor-claims (factor-at t) factor.Post
-  factor-number-requires-2 c κs = tt
-
-  factor-read-requires-3 : factor-lts.Need-read-requires-3 factor-claims (factor-at t) factor.Post
-  factor-read-requires-3 c κs = tt
-
   factor-returns-3 : factor-lts.Need-returns-3 factor-claims (factor-at t) factor.Post
   factor-returns-3 c = factor-dot _ _ _ _ _ _ (c .before .before .before .before .before .token .ensures) _ (c .before .before .before .before .if1 .left) (c .before .before .before .if2 .left) (c .before .before .if3 .taken) _ (c .before .number2 .ensures) (c .read3 .ensures)
-
-  factor-stop-requires : factor-lts.Need-stop-requires factor-claims (factor-at t) factor.Post
-  factor-stop-requires c κs = tt
 
   factor-returns-4 : factor-lts.Need-returns-4 factor-claims (factor-at t) factor.Post
   factor-returns-4 c = factor-none _ _ _ _ _ _ (c .before .before .before .before .before .token .ensures) _ (c .before .before .before .before .if1 .left) (c .before .before .before .if2 .left) (c .before .before .if3 .left) (c .before .if4 .taken) (c .stop .ensures)
 
-  factor-stop-requires-2 : factor-lts.Need-stop-requires-2 factor-claims (factor-at t) factor.Post
-  factor-stop-requires-2 c κs = tt
-
   factor-returns-5 : factor-lts.Need-returns-5 factor-claims (factor-at t) factor.Post
   factor-returns-5 c = factor-inside _ _ _ _ _ _ (c .before .before .before .before .before .before .token .ensures) _ (c .before .before .before .before .before .if1 .left) (c .before .before .before .before .if2 .left) (c .before .before .before .if3 .left) (c .before .before .if4 .left) (inside-none _ _ _ _ _ _ (c .before .if5 .taken) (c .stop2 .ensures))
-
-  factor-sub-expression : factor-lts.Need-sub-expression factor-claims (factor-at t) factor.Post
-  factor-sub-expression c = omega arith
-
-  factor-expression-requires : factor-lts.Need-expression-requires factor-claims (factor-at t) factor.Post
-  factor-expression-requires c κs = (omega arith, tt)
-
-  factor-closed-requires : factor-lts.Need-closed-requires factor-claims (factor-at t) factor.Post
-  factor-closed-requires c κs = tt
 
   factor-returns-6 : factor-lts.Need-returns-6 factor-claims (factor-at t) factor.Post
   factor-returns-6 c = factor-inside _ _ _ _ _ _ (c .before .before .before .before .before .before .before .token .ensures) _ (c .before .before .before .before .before .before .if1 .left) (c .before .before .before .before .before .if2 .left) (c .before .before .before .before .if3 .left) (c .before .before .before .if4 .left) (inside-some _ _ _ _ _ _ (c .before .before .if5 .left) _ (c .before .expression .ensures) (c .closed .ensures))
 
-  first-token-requires : first-lts.Need-token-requires first-claims (first-at t) first.Post
-  first-token-requires c κs = tt
-
-  first-product-requires : first-lts.Need-product-requires first-claims (first-at t) first.Post
-  first-product-requires c κs = (omega arith, tt)
-
-  first-returns : first-lts.Need-returns first-claims (first-at t) first.Post
-  first-returns c = first-plain _ _ _ _ (c .before .before .before .token .ensures) _ (c .before .if1 .taken) (c .product .ensures)
-
-  first-product-requires-2 : first-lts.Need-product-requires-2 first-claims (first-at t) first.Post
-  first-product-requires-2 c κs = (omega arith, tt)
-
-  first-opposed-requires : first-lts.Need-opposed-requires first-claims (first-at t) first.Post
-  first-opposed-requires c κs = tt
-
   first-returns-2 : first-lts.Need-returns-2 first-claims (first-at t) first.Post
   first-returns-2 c = first-minus _ _ _ _ (c .before .before .before .before .token .ensures) _ (c .before .before .if1 .left) (c .before .product2 .ensures) _ (c .opposed .ensures)
 
-  product-factor-requires : product-lts.Need-factor-requires product-claims (product-at t) product.Post product-Inv-loop product-μ-loop
-  product-factor-requires c κs = (omega arith, tt)
-
-  product-loop-holds : product-lts.Need-loop-holds product-claims (product-at t) product.Post product-Inv-loop product-μ-loop
-  product-loop-holds c = product-starts _ _ _ _ _ _ (c .factor .ensures)
-
-  product-token-requires : product-lts.Need-token-requires product-claims (product-at t) product.Post product-Inv-loop product-μ-loop
-  product-token-requires c κs = tt
-
   product-returns : product-lts.Need-returns product-claims (product-at t) product.Post product-Inv-loop product-μ-loop
   product-returns c = left-ends _ _ _ _ _ _ (c .before .before .before .if1 .taken) _ (c .before .before .token .ensures) (ne-eqb _ 14 (c .if2 .taken)) (c .before .before .before .before .before .loop .inv)
-
-  product-factor-requires-2 : product-lts.Need-factor-requires-2 product-claims (product-at t) product.Post product-Inv-loop product-μ-loop
-  product-factor-requires-2 c κs = (omega arith, tt)
-
-  product-multiplied-requires : product-lts.Need-multiplied-requires product-claims (product-at t) product.Post product-Inv-loop product-μ-loop
-  product-multiplied-requires c κs = tt
 
   product-loop-less : product-lts.Need-loop-less product-claims (product-at t) product.Post product-Inv-loop product-μ-loop
   product-loop-less c = product-falls _ _ _ _ _ _ _ _ (c .before .before .before .before .token .ensures) (eq-eqb _ 14 (c .before .before .if2 .left)) (c .before .factor2 .ensures) (c .multiplied .ensures)
@@ -225,67 +138,20 @@ module _ (t : ℕ) where
   product-loop-again : product-lts.Need-loop-again product-claims (product-at t) product.Post product-Inv-loop product-μ-loop
   product-loop-again c = product-again _ _ _ _ _ _ _ _ (c .before .before .before .before .token .ensures) (eq-eqb _ 14 (c .before .before .if2 .left)) (c .before .factor2 .ensures) (c .multiplied .ensures) (c .before .before .before .before .before .if1 .taken) _ (c .before .before .before .before .before .before .before .loop .inv)
 
-  product-returns-2 : product-lts.Need-returns-2 product-claims (product-at t) product.Post product-Inv-loop product-μ-loop
-  product-returns-2 c = left-refused _ _ _ _ _ _ (c .if1 .left) (c .before .before .loop .inv)
-
 pub +expression+factor+first+product-spec : {M : Type 1} → statement M
 +expression+factor+first+product-spec =
-    close μ-expression μ-factor μ-first μ-product (λ t. expression-lts.spec (expression-claims t)
-    (expression-at t)
-    expression.Post
-    expression-Inv-loop
-    expression-μ-loop
-    (expression-first-requires t)
-    (expression-loop-holds t)
-    (expression-token-requires t)
-    (expression-sign-requires t)
-    (expression-returns t)
-    (expression-product-requires t)
-    (expression-added-requires t)
-    (expression-loop-less t)
-    (expression-loop-again t)
-    (expression-returns-2 t))
-    (λ t. factor-lts.spec (factor-claims t)
-    (factor-at t)
-    factor.Post
-    (factor-token-requires t)
-    (factor-number-requires t)
-    (factor-read-requires t)
-    (factor-returns t)
-    (factor-label-requires t)
-    (factor-read-requires-2 t)
-    (factor-returns-2 t)
-    (factor-number-requires-2 t)
-    (factor-read-requires-3 t)
-    (factor-returns-3 t)
-    (factor-stop-requires t)
-    (factor-returns-4 t)
-    (factor-stop-requires-2 t)
-    (factor-returns-5 t)
-    (factor-sub-expression t)
-    (factor-expression-requires t)
-    (factor-closed-requires t)
+    close μ-expression μ-factor μ-first μ-product
+    (λ t. expression-lts.spec (expression-claims t) (expression-at t) expression.Post expression-Inv-loop expression-μ-loop
+    (λ c κs. (omega arith, tt)) (λ c. sum-starts _ _ _ _ _ _ (c .first .ensures)) _ _ (expression-returns t)
+    (λ c κs. (omega arith, tt)) _ (expression-loop-less t) (expression-loop-again t)
+    (λ c. left-refused _ _ _ _ _ _ (c .if1 .left) (c .before .before .loop .inv)))
+    (λ t. factor-lts.spec (factor-claims t) (factor-at t) factor.Post _ _ _ (factor-returns t) _ _ (factor-returns-2 t) _ _
+    (factor-returns-3 t) _ (factor-returns-4 t) _ (factor-returns-5 t) (λ c. omega arith) (λ c κs. (omega arith, tt)) _
     (factor-returns-6 t))
-    (λ t. first-lts.spec (first-claims t)
-    (first-at t)
-    first.Post
-    (first-token-requires t)
-    (first-product-requires t)
-    (first-returns t)
-    (first-product-requires-2 t)
-    (first-opposed-requires t)
-    (first-returns-2 t))
-    λ t. product-lts.spec (product-claims t)
-    (product-at t)
-    product.Post
-    product-Inv-loop
-    product-μ-loop
-    (product-factor-requires t)
-    (product-loop-holds t)
-    (product-token-requires t)
-    (product-returns t)
-    (product-factor-requires-2 t)
-    (product-multiplied-requires t)
-    (product-loop-less t)
-    (product-loop-again t)
-    (product-returns-2 t)
+    (λ t. first-lts.spec (first-claims t) (first-at t) first.Post _ (λ c κs. (omega arith, tt))
+    (λ c. first-plain _ _ _ _ (c .before .before .before .token .ensures) _ (c .before .if1 .taken) (c .product .ensures))
+    (λ c κs. (omega arith, tt)) _ (first-returns-2 t))
+    (λ t. product-lts.spec (product-claims t) (product-at t) product.Post product-Inv-loop product-μ-loop
+    (λ c κs. (omega arith, tt)) (λ c. product-starts _ _ _ _ _ _ (c .factor .ensures)) _ (product-returns t)
+    (λ c κs. (omega arith, tt)) _ (product-loop-less t) (product-loop-again t)
+    (λ c. left-refused _ _ _ _ _ _ (c .if1 .left) (c .before .before .loop .inv)))

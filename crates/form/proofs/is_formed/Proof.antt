@@ -5,43 +5,21 @@ use borrow.Author.Needs.{needs}
 use Rattle.form.proofs.is_formed.Statement.{statement}
 use Rattle.form.proofs.is_formed.Tie as tie
 
-same-lengths-requires : tie.Need-same-lengths-requires
-same-lengths-requires c κs = search needs
-
 returns : tie.Need-returns
 unfolding formedBy
 returns c = stops-first _ _ _ _ _ (c .before .same-lengths .ensures) (c .if1 .taken)
-
-has-room-requires : tie.Need-has-room-requires
-has-room-requires c κs = search needs
 
 returns-2 : tie.Need-returns-2
 unfolding formedBy
 returns-2 c = stops-second _ _ _ _ _ (c .before .before .before .same-lengths .ensures) (c .before .before .if1 .left) _ (c .before .has-room .ensures) (c .if2 .taken)
 
-is-numbered-requires : tie.Need-is-numbered-requires
-is-numbered-requires c κs = search needs
-
 returns-3 : tie.Need-returns-3
 unfolding formedBy
 returns-3 c = stops-third _ _ _ _ _ (c .before .before .before .before .before .same-lengths .ensures) (c .before .before .before .before .if1 .left) _ (c .before .before .before .has-room .ensures) (c .before .before .if2 .left) _ (c .before .is-numbered .ensures) (c .if3 .taken)
-
-is-seated-requires : tie.Need-is-seated-requires
-is-seated-requires c κs = search needs
 
 returns-4 : tie.Need-returns-4
 unfolding formedBy
 returns-4 c = fourth _ _ _ _ _ (c .before .before .before .before .before .before .same-lengths .ensures) (c .before .before .before .before .before .if1 .left) _ (c .before .before .before .before .has-room .ensures) (c .before .before .before .if2 .left) _ (c .before .before .is-numbered .ensures) (c .before .if3 .left) _ (c .is-seated .ensures)
 
 pub is-formed-spec : {M : Type 1} → statement M
-is-formed-spec =
-    tie.close
-    (tie.spec
-    same-lengths-requires
-    returns
-    has-room-requires
-    returns-2
-    is-numbered-requires
-    returns-3
-    is-seated-requires
-    returns-4)
+is-formed-spec = tie.close (tie.spec _ returns (λ c κs. search needs) returns-2 _ returns-3 _ returns-4)

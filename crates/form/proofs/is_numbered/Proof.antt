@@ -1,14 +1,7 @@
 -- `is_numbered`, test by test.
 use borrow.Author.Tests.{le-leb, lt-leb}
-use borrow.Author.Needs.{needs}
 use Rattle.form.proofs.is_numbered.Statement.{statement}
 use Rattle.form.proofs.is_numbered.Tie as tie
-
-first-number-requires : tie.Need-first-number-requires
-first-number-requires c κs = search needs
-
-returns : tie.Need-returns
-returns c = simp (← c .before .first-number .ensures, lt-leb _ _ (c .if1 .taken))
 
 returns-2 : tie.Need-returns-2
 returns-2 c = simp (← c .before .before .first-number .ensures, le-leb _ _ (c .before .if1 .left), lt-leb _ _ (c .if2 .taken))
@@ -17,4 +10,6 @@ returns-3 : tie.Need-returns-3
 returns-3 c = simp (← c .before .before .first-number .ensures, le-leb _ _ (c .before .if1 .left), le-leb _ _ (c .if2 .left))
 
 pub is-numbered-spec : {M : Type 1} → statement M
-is-numbered-spec = tie.close (tie.spec first-number-requires returns returns-2 returns-3)
+is-numbered-spec =
+    tie.close
+    (tie.spec _ (λ c. simp (← c .before .first-number .ensures, lt-leb _ _ (c .if1 .taken))) returns-2 returns-3)

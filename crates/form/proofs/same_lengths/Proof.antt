@@ -3,12 +3,6 @@ use borrow.Author.Tests.{eq-eqb, ne-eqb}
 use Rattle.form.proofs.same_lengths.Statement.{statement}
 use Rattle.form.proofs.same_lengths.Tie as tie
 
-returns : tie.Need-returns
-returns c = simp (ne-eqb _ _ (c .if1 .taken))
-
-returns-2 : tie.Need-returns-2
-returns-2 c = simp (eq-eqb _ _ (c .before .if1 .left), ne-eqb _ _ (c .if2 .taken))
-
 returns-3 : tie.Need-returns-3
 returns-3 c = simp (eq-eqb _ _ (c .before .before .if1 .left), eq-eqb _ _ (c .before .if2 .left), ne-eqb _ _ (c .if3 .taken))
 
@@ -19,4 +13,7 @@ returns-5 : tie.Need-returns-5
 returns-5 c = simp (eq-eqb _ _ (c .before .before .before .if1 .left), eq-eqb _ _ (c .before .before .if2 .left), eq-eqb _ _ (c .before .if3 .left), c .if4 .left)
 
 pub same-lengths-spec : {M : Type 1} → statement M
-same-lengths-spec = tie.close (tie.spec returns returns-2 returns-3 returns-4 returns-5)
+same-lengths-spec =
+    tie.close
+    (tie.spec (λ c. simp (ne-eqb _ _ (c .if1 .taken))) (λ c. simp (eq-eqb _ _ (c .before .if1 .left), ne-eqb _ _ (c .if2 .taken)))
+    returns-3 returns-4 returns-5)

@@ -5,7 +5,7 @@ use Prim.Native.String.{String}
 use Rattle.grammar.specs.Tokens.{Add}
 use Rattle.grammar.specs.Trees.{adding, taking, product, negative, more, factor, times, literal, label, here, group, constant, computing, branching, Line, nothing, labelled, instruction, value}
 use Rattle.grammar.specs.Grammar.{deepest}
-use Rattle.grammar.specs.Bytes.{bytes}
+use Rattle.numerals.specs.Bytes.{bytes}
 use Rattle.grammar.specs.Spelling.{digit, capital, small, in-word, blank, lower, hex, digit-value, words, signs}
 use Rattle.grammar.specs.Reading.Reader.{Answer, got, code, read}
 use Rattle.grammar.specs.Reading.Lexer.{hexadecimal-of, number-of, token-of, class}
@@ -45,25 +45,4 @@ pub record Samples : Type 0 where
 
 pub samples : Samples
 unfolding read digit capital small in-word blank lower hex digit-value words signs hexadecimal-of number-of token-of class
-samples = record {
-  nothing-there = refl;
-  a-label = refl;
-  a-constant = refl;
-  a-comma = refl;
-  three = refl;
-  backwards = refl;
-  offsets = refl;
-  left-to-right = refl;
-  sixteen = refl;
-  seventeen = refl;
-  behind-a-factor = refl;
-  whatever-follows = refl;
-  garbage-first = refl;
-  two-items = refl;
-  two-signs = refl;
-  run-together = refl;
-  no-digits = refl;
-  two-commas = refl;
-  no-register = refl;
-  reserved = refl;
-}
+samples = search refl

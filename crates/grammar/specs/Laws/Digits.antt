@@ -1,26 +1,18 @@
 -- Numbers as digits: what is written with enough digits has its value, in decimal and in hexadecimal.
 use mathlib.Core.Path.{_≡_, refl, sym, ap, _∙_}
-use mathlib.Core.Bool.{Bool, true, cond}
+use mathlib.Core.Bool.{Bool, true}
 use mathlib.Core.List.{List, [], _∷_, _++_}
 use Prim.Native.Nat.{ℕ, zero, suc, _+_, _*_, _/_, _%_, _^_, _<_}
 use native.Mathlib.Omega.{arith}
 use native.Mathlib.Nat.{mod-lt, div-add-mod', div-lt-iff-lt-mul, pow-zero, pow-suc}
 use borrow.Author.Tests.{eqb-true}
-use lib.Dec.{ltb, eqb}
+use lib.Dec.{eqb}
 use lib.ListN.{length}
 use Rattle.grammar.specs.Tokens.{number}
-use Rattle.grammar.specs.Bytes.{bytes}
+use Rattle.numerals.specs.Bytes.{bytes}
+use Rattle.numerals.specs.Numerals.{glyph, digits}
 use Rattle.grammar.specs.Spelling.{digit, capital, lower, hex, every, digit-value, value, Spells, decimal, hexadecimal}
 use Rattle.grammar.specs.Laws.Tables.{every-snoc, all-below, below}
-
--- "0" to "9", then "A" to "F"
-abbrev pub glyph : ℕ → ℕ
-glyph d = cond (ltb d 10) (48 + d) (55 + d)
-
--- the last k digits of n, the highest first
-abbrev pub digits : ℕ → ℕ → ℕ → List ℕ
-digits base zero n = []
-digits base (suc k) n = digits base k (n / base) ++ glyph (n % base) ∷ []
 
 -- ---- one digit
 

@@ -6,7 +6,7 @@ use contract.Running.{givenOf, tables, tablesOf}
 use denote.Triple.Spec.{tripleOf}
 use denote.Triple.Table.{entered, cited}
 use Rattle.rules.specs.Images.{load}
-use Rattle.loader.specs.Promises.{lent, loadedOf}
+use Rattle.loader.specs.Views.{lent, loadedOf}
 use Rattle.walks.proofs.Loading.{meets}
 use Rattle.loader.proofs.load as beneath
 use Rattle.loader.proofs.load.Symbol.{name, routine}

@@ -3,23 +3,16 @@ use borrow.Author.Tests.{not-true, not-false}
 use mathlib.Core.Path.{_≡_}
 use mathlib.Core.Bool.{true, false}
 use Rattle.common.specs.Words.{decode}
-use borrow.Author.Needs.{needs}
 use Rattle.instructions.proofs.decode.Statement.{statement}
 use Rattle.instructions.proofs.decode.Tie as tie
-
-is-instruction-requires : tie.Need-is-instruction-requires
-is-instruction-requires c κs = search needs
 
 returns : tie.Need-returns
 unfolding decode
 returns c = let e : c .before .is-instruction .result ≡ false = not-true _ (c .if1 .taken) in simp (← c .before .is-instruction .ensures, e)
-
-fields-requires : tie.Need-fields-requires
-fields-requires c κs = search needs
 
 returns-2 : tie.Need-returns-2
 unfolding decode
 returns-2 c = let e : c .before .before .is-instruction .result ≡ true = not-false _ (c .before .if1 .left) in simp (← c .before .before .is-instruction .ensures, e) (c .fields .ensures)
 
 pub decode-spec : {M : Type 1} → statement M
-decode-spec = tie.close (tie.spec is-instruction-requires returns fields-requires returns-2)
+decode-spec = tie.close (tie.spec _ returns _ returns-2)

@@ -1,28 +1,13 @@
 -- `encode` is the rules' encoder: the packed word is asked what the numbers are.
 use mathlib.Core.Path.{ap, _∙_}
 use Rattle.instructions.specs.Packing.{room, refuses, refuses-word, takes-word}
-use Rattle.instructions.specs.Promises.{encoded}
+use Rattle.instructions.specs.Views.{encoded}
 use borrow.Author.Needs.{needs}
 use Rattle.instructions.proofs.encode.Statement.{statement}
 use Rattle.instructions.proofs.encode.Tie as tie
 
-has-room-requires : tie.Need-has-room-requires
-has-room-requires c κs = search needs
-
-no-word-requires : tie.Need-no-word-requires
-no-word-requires c κs = search needs
-
 returns : tie.Need-returns
 returns c = ap encoded (c .no-word .ensures) ∙ refuses _ _ _ _ _ (c .before .before .has-room .ensures) (c .before .if1 .taken)
-
-packed-requires : tie.Need-packed-requires
-packed-requires c κs = room _ _ _ _ _ (c .before .has-room .ensures) (c .if1 .left)
-
-is-instruction-requires : tie.Need-is-instruction-requires
-is-instruction-requires c κs = search needs
-
-no-word-requires-2 : tie.Need-no-word-requires-2
-no-word-requires-2 c κs = search needs
 
 returns-2 : tie.Need-returns-2
 returns-2 c = ap encoded (c .no-word2 .ensures) ∙ refuses-word _ _ _ _ _ (c .before .before .before .before .before .has-room .ensures) (c .before .before .before .before .if1 .left) _ (c .before .before .before .packed .ensures) _ (c .before .before .is-instruction .ensures) (c .before .if2 .taken)
@@ -33,12 +18,5 @@ returns-3 c = takes-word _ _ _ _ _ (c .before .before .before .before .has-room 
 pub encode-spec : {M : Type 1} → statement M
 encode-spec =
     tie.close
-    (tie.spec
-    has-room-requires
-    no-word-requires
-    returns
-    packed-requires
-    is-instruction-requires
-    no-word-requires-2
-    returns-2
-    returns-3)
+    (tie.spec (λ c κs. search needs) _ returns (λ c κs. room _ _ _ _ _ (c .before .has-room .ensures) (c .if1 .left)) _ _
+    returns-2 returns-3)

@@ -3,8 +3,5 @@ use mathlib.Core.Path.{refl}
 use Rattle.instructions.proofs.fields.Statement.{statement}
 use Rattle.instructions.proofs.fields.Tie as tie
 
-returns : tie.Need-returns
-returns c = refl
-
 pub fields-spec : {M : Type 1} → statement M
-fields-spec = tie.close (tie.spec returns)
+fields-spec = tie.close (tie.spec (λ c. refl))

@@ -1,15 +1,11 @@
 -- The mask test, by the row of the opcode.
 use Rattle.instructions.specs.Masks.{fitsIn}
-use borrow.Author.Needs.{needs}
 use Rattle.instructions.proofs.fits.Statement.{statement}
 use Rattle.instructions.proofs.fits.Tie as tie
-
-used-requires : tie.Need-used-requires
-used-requires c κs = search needs
 
 returns : tie.Need-returns
 unfolding fitsIn
 returns c = simp (c .used .ensures)
 
 pub fits-spec : {M : Type 1} → statement M
-fits-spec = tie.close (tie.spec used-requires returns)
+fits-spec = tie.close (tie.spec _ returns)

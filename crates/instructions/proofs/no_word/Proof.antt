@@ -3,8 +3,5 @@ use mathlib.Core.Path.{refl}
 use Rattle.instructions.proofs.no_word.Statement.{statement}
 use Rattle.instructions.proofs.no_word.Tie as tie
 
-returns : tie.Need-returns
-returns c = refl
-
 pub no-word-spec : {M : Type 1} → statement M
-no-word-spec = tie.close (tie.spec returns)
+no-word-spec = tie.close (tie.spec (λ c. refl))

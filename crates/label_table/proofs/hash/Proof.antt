@@ -17,34 +17,16 @@ Inv-loop text place h₀ p₀ h p = (h < 1024) × (hashOn h (nameAt text p) ≡ 
 abbrev μ-loop : tie.MeasureT-loop
 μ-loop text place h₀ p₀ h p = length text - p
 
-loop-holds : tie.Need-loop-holds Inv-loop μ-loop
-loop-holds c = (omega arith, refl)
-
-shared-slice-read-b : tie.Need-shared-slice-read-b Inv-loop μ-loop
-shared-slice-read-b c = omega arith
-
-folded-requires : tie.Need-folded-requires Inv-loop μ-loop
-folded-requires c κs = tt
-
 returns : tie.Need-returns Inv-loop μ-loop
 returns c = let x = c .before .before .before .before .loop in let text = c .before .before .before .before .before .before .args .text .now in
     let ends = name-none text (x .p) (none-folded _ (sym (c .before .folded .ensures) ∙ c .if1 .taken)) in
     (sym (hash-end text (x .h) (x .p) ends) ∙ x .inv .1, x .inv .0)
-
-mul-h : tie.Need-mul-h Inv-loop μ-loop
-mul-h c = omega arith
 
 cast-h : tie.Need-cast-h Inv-loop μ-loop
 cast-h c = omega (arith, c .before .before .shared-slice-known2 .given (c .before .before .before .before .loop .p))
 
 add-h : tie.Need-add-h Inv-loop μ-loop
 add-h c = omega (arith, c .before .before .shared-slice-known2 .given (c .before .before .before .before .loop .p))
-
-add-p : tie.Need-add-p Inv-loop μ-loop
-add-p c = omega arith
-
-loop-less : tie.Need-loop-less Inv-loop μ-loop
-loop-less c = omega arith
 
 loop-again : tie.Need-loop-again Inv-loop μ-loop
 loop-again c = let x = c .before .before .before .before .loop in let text = c .before .before .before .before .before .before .args .text .now in
@@ -57,17 +39,5 @@ returns-2 c = let x = c .before .loop in let text = c .before .before .before .a
 pub hash-spec : {M : Type 1} → statement M
 hash-spec =
     tie.close
-    (tie.spec
-    Inv-loop
-    μ-loop
-    loop-holds
-    shared-slice-read-b
-    folded-requires
-    returns
-    mul-h
-    cast-h
-    add-h
-    add-p
-    loop-less
-    loop-again
-    returns-2)
+    (tie.spec Inv-loop μ-loop (λ c. (omega arith, refl)) (λ c. omega arith) _ returns (λ c. omega arith) cast-h add-h
+    (λ c. omega arith) (λ c. omega arith) loop-again returns-2)

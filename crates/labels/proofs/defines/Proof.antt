@@ -1,5 +1,4 @@
 -- A line of another shape defines nothing; a label line defines the word that stands first.
-use borrow.Author.Needs.{needs}
 use Rattle.grammar.specs.Laws.Runs.{nameAt, lineAt}
 use Rattle.sources.specs.Texts.{reading}
 use Rattle.labels.specs.LineLaws.{defines-none, defines-name}
@@ -9,14 +8,8 @@ use Rattle.labels.proofs.defines.Tie as tie
 returns : tie.Need-returns
 returns c = let g = c .before .before .args in defines-none (nameAt (g .text .now) (g .place)) (reading (lineAt (g .text .now) (g .at))) _ (c .before .before .pre) (c .if1 .taken)
 
-token-requires : tie.Need-token-requires
-token-requires c κs = search needs
-
-same-name-requires : tie.Need-same-name-requires
-same-name-requires c κs = search needs
-
 returns-2 : tie.Need-returns-2
 returns-2 c = defines-name _ _ _ _ _ _ (c .before .before .before .before .pre) (c .before .before .if1 .left) (c .before .token .ensures) (c .same-name .ensures)
 
 pub defines-spec : {M : Type 1} → statement M
-defines-spec = tie.close (tie.spec returns token-requires same-name-requires returns-2)
+defines-spec = tie.close (tie.spec returns _ _ returns-2)

@@ -6,13 +6,6 @@ use Rattle.labels.specs.Locating.{heldBy}
 use Rattle.labels.proofs.held.Statement.{statement}
 use Rattle.labels.proofs.held.Tie as tie
 
-returns : tie.Need-returns
-unfolding heldBy
-returns c = sym (ap bit (eq-eqb _ _ (c .if1 .taken)))
-
-returns-2 : tie.Need-returns-2
-unfolding heldBy
-returns-2 c = sym (ap bit (ne-eqb _ _ (c .if1 .left)))
-
 pub held-spec : {M : Type 1} → statement M
-held-spec = tie.close (tie.spec returns returns-2)
+unfolding heldBy
+held-spec = tie.close (tie.spec (λ c. sym (ap bit (eq-eqb _ _ (c .if1 .taken)))) (λ c. sym (ap bit (ne-eqb _ _ (c .if1 .left)))))

@@ -2,7 +2,6 @@
 use mathlib.Core.Path.{_≡_, sym}
 use Prim.Native.Nat.{_+_, _-_, _≤_}
 use native.Mathlib.Omega.{arith}
-use borrow.Author.Needs.{needs}
 use lib.ListN.{length}
 use Rattle.grammar.specs.Laws.Runs.{nameAt}
 use Rattle.sources.specs.Texts.{readings}
@@ -21,29 +20,8 @@ Inv-loop text place at₀ line₀ words₀ at line words =
 abbrev μ-loop : tie.MeasureT-loop
 μ-loop text place at₀ line₀ words₀ at line words = length text + 1 - at
 
-loop-holds : tie.Need-loop-holds Inv-loop μ-loop
-loop-holds c = (omega arith, omega arith, omega arith, sym (ahead-start _ _))
-
-shape-requires : tie.Need-shape-requires Inv-loop μ-loop
-shape-requires c κs = search needs
-
-defines-requires : tie.Need-defines-requires Inv-loop μ-loop
-defines-requires c κs = c .shape .ensures
-
 returns : tie.Need-returns Inv-loop μ-loop
 returns c = scan-here _ _ _ _ _ (c .before .before .before .before .loop .inv .3) (c .before .before .before .loop-test .taken) _ (c .before .defines .ensures) (c .if1 .taken)
-
-held-requires : tie.Need-held-requires Inv-loop μ-loop
-held-requires c κs = search needs
-
-add-words : tie.Need-add-words Inv-loop μ-loop
-add-words c = let k = held-small _ _ (c .held .ensures) in omega (arith, k)
-
-add-line : tie.Need-add-line Inv-loop μ-loop
-add-line c = omega arith
-
-line-end-requires : tie.Need-line-end-requires Inv-loop μ-loop
-line-end-requires c κs = search needs
 
 add-at : tie.Need-add-at Inv-loop μ-loop
 add-at c = let w = line-end-within _ _ (c .before .before .before .before .before .loop-test .taken) _ (c .line-end .ensures) in omega (arith, w .1)
@@ -61,24 +39,9 @@ loop-again c =
       scan-next _ _ _ _ _ (c .before .before .before .before .before .before .loop .inv .3) (c .before .before .before .before .before .loop-test .taken) _ (c .before .before .before .defines .ensures) (c .before .before .if1 .left) _ _ _ (c .before .before .before .before .shape .ensures) (c .before .held .ensures) (c .line-end .ensures),
     )
 
-returns-2 : tie.Need-returns-2 Inv-loop μ-loop
-returns-2 c = scan-past _ _ _ _ _ (c .before .loop .inv .3) (c .loop-test .left)
-
 pub scan-spec : {M : Type 1} → statement M
 scan-spec =
     tie.close
-    (tie.spec
-    Inv-loop
-    μ-loop
-    loop-holds
-    shape-requires
-    defines-requires
-    returns
-    held-requires
-    add-words
-    add-line
-    line-end-requires
-    add-at
-    loop-less
-    loop-again
-    returns-2)
+    (tie.spec Inv-loop μ-loop (λ c. (omega arith, omega arith, omega arith, sym (ahead-start _ _))) _ (λ c κs. c .shape .ensures)
+    returns _ (λ c. let k = held-small _ _ (c .held .ensures) in omega (arith, k)) (λ c. omega arith) _ add-at loop-less
+    loop-again (λ c. scan-past _ _ _ _ _ (c .before .loop .inv .3) (c .loop-test .left)))

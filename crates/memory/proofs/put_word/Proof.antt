@@ -7,27 +7,13 @@ use borrow.Author.Needs.{needs}
 use Rattle.memory.proofs.put_word.Statement.{statement}
 use Rattle.memory.proofs.put_word.Tie as tie
 
-mul-words : tie.Need-mul-words
-mul-words c = search needs
-
-slice-write-words : tie.Need-slice-write-words
-slice-write-words c = search needs
-
-same-length : tie.Need-same-length
-same-length c = search needs
-
-returns : tie.Need-returns
-unfolding putWord
-returns c = simp (lt-ltb _ _ (c .before .if1 .taken))
-
 returns-2 : tie.Need-returns-2
 unfolding putWord
 returns-2 c = simp (lt-ltb _ _ (c .before .if1 .taken)) (sym (set-out (c .before .before .args .words .now) (c .before .before .args .place) (c .before .before .args .word) (c .if2 .left)))
 
-returns-3 : tie.Need-returns-3
-unfolding putWord
-returns-3 c = simp (le-ltb _ _ (c .if1 .left))
-
 pub put-word-spec : {M : Type 1} → statement M
+unfolding putWord
 put-word-spec =
-    tie.close (tie.spec mul-words slice-write-words same-length returns returns-2 returns-3)
+    tie.close
+    (tie.spec (λ c. search needs) (λ c. search needs) (λ c. search needs) (λ c. simp (lt-ltb _ _ (c .before .if1 .taken)))
+    returns-2 (λ c. simp (le-ltb _ _ (c .if1 .left))))

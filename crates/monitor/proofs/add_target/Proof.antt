@@ -4,29 +4,8 @@ use borrow.Author.Needs.{needs}
 use Rattle.monitor.proofs.add_target.Statement.{statement}
 use Rattle.monitor.proofs.add_target.Tie as tie
 
-element-copy-out-target : tie.Need-element-copy-out-target
-element-copy-out-target c = search needs
-
-element-copy-out-back : tie.Need-element-copy-out-back
-element-copy-out-back c = search needs
-
-owns-requires : tie.Need-owns-requires
-owns-requires c κs = search needs
-
-returns : tie.Need-returns
-returns c = not-owned _ _ _ (c .before .owns .ensures) (c .if1 .taken)
-
-owns-requires-2 : tie.Need-owns-requires-2
-owns-requires-2 c κs = search needs
-
 returns-2 : tie.Need-returns-2
 returns-2 c = no-way-back _ _ _ (c .before .before .before .owns .ensures) (c .before .before .if1 .left) _ (c .before .owns2 .ensures) (c .if2 .taken)
-
-join-at-requires : tie.Need-join-at-requires
-join-at-requires c κs = search needs
-
-same-length : tie.Need-same-length
-same-length c = search needs
 
 returns-3 : tie.Need-returns-3
 returns-3 c = adds _ _ _ (c .before .before .before .before .before .before .before .owns .ensures) (c .before .before .before .before .before .before .if1 .left) _ (c .before .before .before .before .before .owns2 .ensures) (c .before .before .before .before .if2 .left) _ (c .before .before .join-at .ensures)
@@ -34,13 +13,5 @@ returns-3 c = adds _ _ _ (c .before .before .before .before .before .before .bef
 pub add-target-spec : {M : Type 1} → statement M
 add-target-spec =
     tie.close
-    (tie.spec
-    element-copy-out-target
-    element-copy-out-back
-    owns-requires
-    returns
-    owns-requires-2
-    returns-2
-    join-at-requires
-    same-length
-    returns-3)
+    (tie.spec (λ c. search needs) (λ c. search needs) _ (λ c. not-owned _ _ _ (c .before .owns .ensures) (c .if1 .taken)) _
+    returns-2 _ (λ c. search needs) returns-3)

@@ -3,8 +3,5 @@ use borrow.Author.Needs.{needs}
 use Rattle.moves.proofs.goes.Statement.{statement}
 use Rattle.moves.proofs.goes.Tie as tie
 
-returns : tie.Need-returns
-returns c = search needs
-
 pub goes-spec : {M : Type 1} → statement M
-goes-spec = tie.close (tie.spec (λ c κs. search needs) returns)
+goes-spec = tie.close (tie.spec (λ c κs. search needs) (λ c. search needs))

@@ -3,33 +3,17 @@ use Rattle.moves.specs.Moves.{loadMove}
 use mathlib.Core.Bool.{true, false}
 use mathlib.Core.Path.{_≡_}
 use borrow.Author.Tests.{le-ltb, lt-ltb, not-true, not-false}
-use borrow.Author.Needs.{needs}
 use Rattle.moves.proofs.load_move.Statement.{statement}
 use Rattle.moves.proofs.load_move.Tie as tie
-
-stop-requires : tie.Need-stop-requires
-stop-requires c κs = search needs
 
 returns : tie.Need-returns
 unfolding loadMove
 returns c = simp (c .stop .ensures, le-ltb _ _ (c .before .if1 .taken))
 
-may-read-requires : tie.Need-may-read-requires
-may-read-requires c κs = search needs
-
-stop-requires-2 : tie.Need-stop-requires-2
-stop-requires-2 c κs = search needs
-
 returns-2 : tie.Need-returns-2
 unfolding loadMove
 returns-2 c = let e : c .before .before .may-read .result ≡ false = not-true _ (c .before .if2 .taken) in
     simp (c .stop2 .ensures, lt-ltb _ _ (c .before .before .before .if1 .left), ← c .before .before .may-read .ensures, e)
-
-word-at-requires : tie.Need-word-at-requires
-word-at-requires c κs = search needs
-
-puts-requires : tie.Need-puts-requires
-puts-requires c κs = search needs
 
 returns-3 : tie.Need-returns-3
 unfolding loadMove
@@ -37,14 +21,4 @@ returns-3 c = let e : c .before .before .before .may-read .result ≡ true = not
     simp (c .puts .ensures, c .before .word-at .ensures, lt-ltb _ _ (c .before .before .before .before .if1 .left), ← c .before .before .before .may-read .ensures, e)
 
 pub load-move-spec : {M : Type 1} → statement M
-load-move-spec =
-    tie.close
-    (tie.spec
-    stop-requires
-    returns
-    may-read-requires
-    stop-requires-2
-    returns-2
-    word-at-requires
-    puts-requires
-    returns-3)
+load-move-spec = tie.close (tie.spec _ returns _ _ returns-2 _ _ returns-3)

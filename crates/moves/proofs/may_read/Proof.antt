@@ -3,21 +3,8 @@ use borrow.Author.Needs.{needs}
 use Rattle.moves.proofs.may_read.Statement.{statement}
 use Rattle.moves.proofs.may_read.Tie as tie
 
-returns : tie.Need-returns
-returns c = search needs
-
-word-at-requires : tie.Need-word-at-requires
-word-at-requires c κs = search needs
-
-set-at-requires : tie.Need-set-at-requires
-set-at-requires c κs = search needs
-
-may-use-requires : tie.Need-may-use-requires
-may-use-requires c κs = search needs
-
 returns-2 : tie.Need-returns-2
 returns-2 c = simp (c .before .before .before .if1 .left, c .may-use .ensures, c .before .before .word-at .ensures, c .before .set-at .ensures)
 
 pub may-read-spec : {M : Type 1} → statement M
-may-read-spec =
-    tie.close (tie.spec returns word-at-requires set-at-requires may-use-requires returns-2)
+may-read-spec = tie.close (tie.spec (λ c. search needs) _ _ _ returns-2)

@@ -3,36 +3,17 @@ use borrow.Author.Tests.{le-ltb, lt-ltb, not-true, not-false}
 use mathlib.Core.Path.{_≡_}
 use mathlib.Core.Bool.{true, false}
 use Rattle.moves.specs.Moves.{storeMove}
-use borrow.Author.Needs.{needs}
 use Rattle.moves.proofs.store_move.Statement.{statement}
 use Rattle.moves.proofs.store_move.Tie as tie
-
-stop-requires : tie.Need-stop-requires
-stop-requires c κs = search needs
 
 returns : tie.Need-returns
 unfolding storeMove
 returns c = simp (c .stop .ensures, le-ltb _ _ (c .before .if1 .taken))
 
-word-at-requires : tie.Need-word-at-requires
-word-at-requires c κs = search needs
-
-set-at-requires : tie.Need-set-at-requires
-set-at-requires c κs = search needs
-
-may-use-requires : tie.Need-may-use-requires
-may-use-requires c κs = search needs
-
-stop-requires-2 : tie.Need-stop-requires-2
-stop-requires-2 c κs = search needs
-
 returns-2 : tie.Need-returns-2
 unfolding storeMove
 returns-2 c = let e : c .before .before .may-use .result ≡ false = not-true _ (c .before .if2 .taken) in
     simp (c .stop2 .ensures, lt-ltb _ _ (c .before .before .before .before .before .if1 .left), ← c .before .before .before .before .word-at .ensures, ← c .before .before .before .set-at .ensures, ← c .before .before .may-use .ensures, e)
-
-stores-requires : tie.Need-stores-requires
-stores-requires c κs = search needs
 
 returns-3 : tie.Need-returns-3
 unfolding storeMove
@@ -40,15 +21,4 @@ returns-3 c = let e : c .before .before .may-use .result ≡ true = not-false _ 
     simp (c .stores .ensures, lt-ltb _ _ (c .before .before .before .before .before .if1 .left), ← c .before .before .before .before .word-at .ensures, ← c .before .before .before .set-at .ensures, ← c .before .before .may-use .ensures, e)
 
 pub store-move-spec : {M : Type 1} → statement M
-store-move-spec =
-    tie.close
-    (tie.spec
-    stop-requires
-    returns
-    word-at-requires
-    set-at-requires
-    may-use-requires
-    stop-requires-2
-    returns-2
-    stores-requires
-    returns-3)
+store-move-spec = tie.close (tie.spec _ returns _ _ _ _ returns-2 _ returns-3)

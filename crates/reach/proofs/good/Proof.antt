@@ -7,20 +7,11 @@ use borrow.Author.Needs.{needs}
 use Rattle.reach.proofs.good.Statement.{statement}
 use Rattle.reach.proofs.good.Tie as tie
 
-in-order-requires : tie.Need-in-order-requires
-in-order-requires c κs = search needs
-
-returns : tie.Need-returns
-returns c = not-in-order _ _ _ _ (sym (c .before .in-order .ensures) ∙ not-true _ (c .if1 .taken))
-
 returns-2 : tie.Need-returns-2
 returns-2 c = all-read _ _ _ (sym (c .before .before .in-order .ensures) ∙ not-false _ (c .before .if1 .left)) _ _ (not-true _ (c .if2 .taken))
 
 add-past : tie.Need-add-past
 add-past c = omega (arith, order-fits _ _ _ (sym (c .before .before .in-order .ensures) ∙ not-false _ (c .before .if1 .left)))
-
-word-at-requires : tie.Need-word-at-requires
-word-at-requires c κs = search needs
 
 mul-past : tie.Need-mul-past
 mul-past c = omega (arith, order-fits _ _ _ (sym (c .before .before .before .in-order .ensures) ∙ not-false _ (c .before .before .if1 .left)), c .word-at .ensures)
@@ -28,26 +19,11 @@ mul-past c = omega (arith, order-fits _ _ _ (sym (c .before .before .before .in-
 add-past-2 : tie.Need-add-past-2
 add-past-2 c = omega (arith, order-fits _ _ _ (sym (c .before .before .before .in-order .ensures) ∙ not-false _ (c .before .before .if1 .left)), c .word-at .ensures)
 
-slice-aggregate-none : tie.Need-slice-aggregate-none
-slice-aggregate-none c = search needs
-
-reaches-all-requires : tie.Need-reaches-all-requires
-reaches-all-requires c κs = search needs
-
 returns-3 : tie.Need-returns-3
 returns-3 c = reads-all _ _ _ (sym (c .before .before .before .before .before .in-order .ensures) ∙ not-false _ (c .before .before .before .before .if1 .left)) _ _ (not-false _ (c .before .before .before .if2 .left)) _ (c .before .before .word-at .ensures) _ (c .reaches-all .ensures)
 
 pub good-spec : {M : Type 1} → statement M
 good-spec =
     tie.close
-    (tie.spec
-    in-order-requires
-    returns
-    returns-2
-    add-past
-    word-at-requires
-    mul-past
-    add-past-2
-    slice-aggregate-none
-    reaches-all-requires
-    returns-3)
+    (tie.spec _ (λ c. not-in-order _ _ _ _ (sym (c .before .in-order .ensures) ∙ not-true _ (c .if1 .taken))) returns-2 add-past _
+    mul-past add-past-2 (λ c. search needs) _ returns-3)

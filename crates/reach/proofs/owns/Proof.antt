@@ -1,7 +1,6 @@
 -- A word's owner, a service's own number, or nobody.
 use mathlib.Core.Path.{sym, _∙_}
 use native.Mathlib.Omega.{arith}
-use borrow.Author.Needs.{needs}
 use borrow.Author.Tests.{le-ltb, lt-ltb, not-true, not-false}
 use Rattle.common.specs.Services.{serviceAt}
 use Rattle.rules.specs.State.{owns, hasOwner, ownerAt, inMemory}
@@ -9,15 +8,9 @@ use Rattle.common.specs.Laws.ServiceLaws.{service-range}
 use Rattle.reach.proofs.owns.Statement.{statement}
 use Rattle.reach.proofs.owns.Tie as tie
 
-word-at-requires : tie.Need-word-at-requires
-word-at-requires c κs = search needs
-
 returns : tie.Need-returns
 unfolding owns hasOwner ownerAt inMemory
 returns c = simp (c .word-at .ensures, lt-ltb _ _ (c .before .if1 .taken))
-
-is-service-requires : tie.Need-is-service-requires
-is-service-requires c κs = search needs
 
 returns-2 : tie.Need-returns-2
 unfolding owns hasOwner ownerAt inMemory
@@ -31,6 +24,4 @@ unfolding owns hasOwner ownerAt inMemory serviceAt
 returns-3 c = simp (le-ltb _ _ (c .before .before .if1 .left), sym (c .before .is-service .ensures) ∙ not-false _ (c .if2 .left))
 
 pub owns-spec : {M : Type 1} → statement M
-owns-spec =
-    tie.close
-    (tie.spec word-at-requires returns is-service-requires returns-2 sub-result returns-3)
+owns-spec = tie.close (tie.spec _ returns _ returns-2 sub-result returns-3)

@@ -19,27 +19,6 @@ loop-holds : tie.Need-loop-holds Inv-loop μ-loop
 unfolding fields
 loop-holds c = (omega arith, refl, refl)
 
-mul-field : tie.Need-mul-field Inv-loop μ-loop
-mul-field c = omega arith
-
-add-field : tie.Need-add-field Inv-loop μ-loop
-add-field c = omega arith
-
-field-requires : tie.Need-field-requires Inv-loop μ-loop
-field-requires c κs = omega arith
-
-mul-regs : tie.Need-mul-regs Inv-loop μ-loop
-mul-regs c = omega arith
-
-array-write-regs : tie.Need-array-write-regs Inv-loop μ-loop
-array-write-regs c = omega arith
-
-add-i : tie.Need-add-i Inv-loop μ-loop
-add-i c = omega arith
-
-loop-less : tie.Need-loop-less Inv-loop μ-loop
-loop-less c = omega arith
-
 loop-again : tie.Need-loop-again Inv-loop μ-loop
 loop-again c = let g = c .before .before .before .before .args in
     let x = c .before .before .loop in (
@@ -58,16 +37,5 @@ returns c = let g = c .before .before .before .args in
 pub registers-spec : {M : Type 1} → statement M
 registers-spec =
     tie.close
-    (tie.spec
-    Inv-loop
-    μ-loop
-    loop-holds
-    mul-field
-    add-field
-    field-requires
-    mul-regs
-    array-write-regs
-    add-i
-    loop-less
-    loop-again
-    returns)
+    (tie.spec Inv-loop μ-loop loop-holds (λ c. omega arith) (λ c. omega arith) (λ c κs. omega arith) (λ c. omega arith)
+    (λ c. omega arith) (λ c. omega arith) (λ c. omega arith) loop-again returns)

@@ -1,72 +1,28 @@
 -- The loop's count is that of the places behind it.
+use mathlib.Core.Bool.{true, false}
 use mathlib.Core.Logic.{⊎-elim}
-use mathlib.Core.Path.{_≡_, ap, _∙_}
-use Prim.Native.Nat.{_-_, _≤_, min}
+use Prim.Native.Nat.{_-_}
 use native.Mathlib.Omega.{arith}
-use borrow.Author.Needs.{needs}
 use borrow.Author.Tests.{eq-eqb, ne-eqb}
 use lib.Dec.{eqb}
-use lib.ListN.{getD, length}
-use Rattle.common.specs.Instructions.{bit}
-use Rattle.rules.specs.Counts.{countFrom}
-use Rattle.report.specs.CountLaws.{count-none, count-more, count-most}
+use lib.ListN.{getD}
+use Rattle.report.specs.CountLaws.{Counting, count-starts, count-goes, count-ends}
 use Rattle.report.proofs.places_owned.Statement.{statement}
 use Rattle.report.proofs.places_owned.Tie as tie
 
 abbrev Inv-loop : tie.InvT-loop
-Inv-loop owners n number places count₀ x₀ count x = (x ≤ places) × (count ≡ countFrom (λ y. eqb (getD owners y 0) number) 0 x)
+Inv-loop owners n number places count₀ x₀ count x = Counting (λ y. eqb (getD owners y 0) number) places count x
 
 abbrev μ-loop : tie.MeasureT-loop
 μ-loop owners n number places count₀ x₀ count x = places - x
 
-least-requires : tie.Need-least-requires Inv-loop μ-loop
-least-requires c κs = search needs
-
-loop-holds : tie.Need-loop-holds Inv-loop μ-loop
-loop-holds c = (omega arith, count-none _)
-
-mul-if1 : tie.Need-mul-if1 Inv-loop μ-loop
-mul-if1 c = omega arith
-
-shared-slice-read-if1 : tie.Need-shared-slice-read-if1 Inv-loop μ-loop
-shared-slice-read-if1 c = omega arith
-
-add-count : tie.Need-add-count Inv-loop μ-loop
-add-count c = let x = c .before .before .before .loop in
-    let m = count-most (λ y. eqb (getD (c .before .before .before .before .before .before .args .owners .now) y 0) (c .before .before .before .before .before .before .args .number)) (x .x) in
-    omega arith
-
-add-x : tie.Need-add-x Inv-loop μ-loop
-add-x c = omega arith
-
-loop-less : tie.Need-loop-less Inv-loop μ-loop
-loop-less c = omega arith
-
 loop-again : tie.Need-loop-again Inv-loop μ-loop
-loop-again c = let x = c .before .before .before .loop in
-    let l = c .before .before .before .before .before .before .args .owners .now in
-    let number = c .before .before .before .before .before .before .args .number in
-    let m = count-more (λ y. eqb (getD l y 0) number) (x .x) in
-    ⊎-elim (λ w. let e : bit (eqb (getD l (x .x) 0) number) ≡ 1 = ap bit (eq-eqb _ _ (w .0 .taken)) in omega arith)
-    (λ w. let e : bit (eqb (getD l (x .x) 0) number) ≡ 0 = ap bit (ne-eqb _ _ (w .0 .left)) in omega arith) (c .if1 .came)
-
-returns : tie.Need-returns Inv-loop μ-loop
-returns c = let x = c .before .loop in
-    let e : x .x ≡ min (c .before .before .before .before .args .n) (length (c .before .before .before .before .args .owners .now)) = omega arith in
-    x .inv .1 ∙ ap (countFrom (λ y. eqb (getD (c .before .before .before .before .args .owners .now) y 0) (c .before .before .before .before .args .number)) 0) e
+loop-again c =
+    let goes = count-goes _ _ _ _ _ (c .before .before .before .loop .inv) (omega arith) in
+    ⊎-elim (λ w. goes true (eq-eqb _ _ (w .0 .taken)) (omega arith)) (λ w. goes false (ne-eqb _ _ (w .0 .left)) (omega arith)) (c .if1 .came)
 
 pub places-owned-spec : {M : Type 1} → statement M
 places-owned-spec =
     tie.close
-    (tie.spec
-    Inv-loop
-    μ-loop
-    least-requires
-    loop-holds
-    mul-if1
-    shared-slice-read-if1
-    add-count
-    add-x
-    loop-less
-    loop-again
-    returns)
+    (tie.spec Inv-loop μ-loop _ (λ c. count-starts _ _) (λ c. omega arith) (λ c. omega arith) (λ c. omega arith) (λ c. omega arith)
+    (λ c. omega arith) loop-again (λ c. count-ends _ _ _ _ _ (c .before .loop .inv) (c .loop-test .left) (c .before .before .least .ensures)))

@@ -3,7 +3,6 @@ use mathlib.Core.Logic.{⊎-elim}
 use mathlib.Core.Path.{_≡_, ap, _∙_}
 use Prim.Native.Nat.{_-_, _≤_, min}
 use native.Mathlib.Omega.{arith}
-use borrow.Author.Needs.{needs}
 use lib.ListN.{getD, length}
 use Rattle.rules.specs.Compartments.{size}
 use Rattle.rules.specs.Counts.{mostOnes}
@@ -17,27 +16,6 @@ Inv-loop writers places most₀ x₀ most x = (x ≤ places) × (most ≡ mostOn
 
 abbrev μ-loop : tie.MeasureT-loop
 μ-loop writers places most₀ x₀ most x = places - x
-
-least-requires : tie.Need-least-requires Inv-loop μ-loop
-least-requires c κs = search needs
-
-loop-holds : tie.Need-loop-holds Inv-loop μ-loop
-loop-holds c = (omega arith, ones-none _)
-
-mul-t9 : tie.Need-mul-t9 Inv-loop μ-loop
-mul-t9 c = omega arith
-
-shared-slice-read-t11 : tie.Need-shared-slice-read-t11 Inv-loop μ-loop
-shared-slice-read-t11 c = omega arith
-
-count-requires : tie.Need-count-requires Inv-loop μ-loop
-count-requires c κs = search needs
-
-add-x : tie.Need-add-x Inv-loop μ-loop
-add-x c = omega arith
-
-loop-less : tie.Need-loop-less Inv-loop μ-loop
-loop-less c = omega arith
 
 loop-again : tie.Need-loop-again Inv-loop μ-loop
 loop-again c = let x = c .before .before .before .before .loop in
@@ -56,15 +34,5 @@ returns c = let x = c .before .loop in
 pub widest-spec : {M : Type 1} → statement M
 widest-spec =
     tie.close
-    (tie.spec
-    Inv-loop
-    μ-loop
-    least-requires
-    loop-holds
-    mul-t9
-    shared-slice-read-t11
-    count-requires
-    add-x
-    loop-less
-    loop-again
-    returns)
+    (tie.spec Inv-loop μ-loop _ (λ c. (omega arith, ones-none _)) (λ c. omega arith) (λ c. omega arith) _ (λ c. omega arith)
+    (λ c. omega arith) loop-again returns)

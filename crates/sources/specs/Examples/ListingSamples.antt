@@ -5,8 +5,9 @@ use Prim.Native.Nat.{ℕ}
 use Prim.Native.String.{String}
 use Rattle.common.specs.Words.{pack, row, allowed, decode}
 use Rattle.common.specs.Opcodes as is
-use Rattle.grammar.specs.Bytes.{bytes}
-use Rattle.sources.specs.Listing.{widthBy, decimal, offsetText, operands, wordText, listing}
+use Rattle.numerals.specs.Bytes.{bytes}
+use Rattle.numerals.specs.Numerals.{widthBy, decimal}
+use Rattle.sources.specs.Listing.{offsetText, operands, wordText, listing}
 
 abbrev Shows : ℕ → String → Type 0
 Shows w s = wordText w ≡ bytes s
@@ -28,19 +29,4 @@ pub record Samples : Type 0 where
 
 pub samples : Samples
 unfolding row allowed decode widthBy decimal offsetText operands wordText listing
-samples =
-    record {
-      alone = refl;
-      a-constant = refl;
-      two = refl;
-      three = refl;
-      a-register = refl;
-      back = refl;
-      forth = refl;
-      most-digits = refl;
-      most-letters = refl;
-      furthest-back = refl;
-      no-opcode = refl;
-      unused-bit = refl;
-      lines = refl;
-    }
+samples = search refl

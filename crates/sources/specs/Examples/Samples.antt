@@ -6,8 +6,9 @@ use Prim.Native.Nat.{ℕ}
 use Prim.Native.String.{String}
 use lib.IntN.{pos, negsuc}
 use lib.ListN.{replicate}
-use Rattle.rules.specs.Images.{allBytes, section, listed, imageBytes, writeVerdict, write}
-use Rattle.grammar.specs.Bytes.{bytes}
+use Rattle.common.specs.Tables.{firstOf}
+use Rattle.rules.specs.Images.{allBytes, section, listed, imageBytes, writeChecks, writeVerdict, write}
+use Rattle.numerals.specs.Bytes.{bytes}
 use Rattle.grammar.specs.Trees.{adding, taking, Expr, product, negative, more, factor, times, literal, label, here, group}
 use Rattle.grammar.specs.Spelling.{digit, capital, small, in-word, blank, lower, hex, digit-value, words, signs}
 use Rattle.grammar.specs.Reading.Reader.{read}
@@ -161,94 +162,6 @@ pub record Samples : Type 0 where
   pub assembling : Assembling
 
 pub samples : Samples
-unfolding read digit capital small in-word blank lower hex digit-value words signs hexadecimal-of number-of token-of class lies bounded lines reading readings wordsIn defined first inField from meaning assemble allBytes section listed imageBytes writeVerdict write
-samples = record {
-  sheet = record {
-    constant = refl;
-    nine = refl;
-    branch = refl;
-    sum = refl;
-    store = refl;
-    rest = refl;
-    numbers = refl;
-    no-text = refl;
-    only-comments = refl;
-    behind-a-comment = refl;
-    no-last-feed = refl;
-    last-feed = refl;
-    carriage-returns = refl;
-  };
-  names = record {
-    forward-and-back = refl;
-    dots = refl;
-    one-address = refl;
-    at-the-end = refl;
-    as-written = refl;
-    no-registers = refl;
-    unknown = refl;
-    twice = refl;
-    used-before = refl;
-    three-times = refl;
-    behind-bad-lines = refl;
-    no-label-there = refl;
-    malformed-again = refl;
-    behind-faults = refl;
-  };
-  order = record {
-    unknown-before-outside = refl;
-    on-either-side = refl;
-    outside-its-field = refl;
-    deep-alone = refl;
-    sixteen = refl;
-    seventeen = refl;
-    side-by-side = refl;
-    no-line = refl;
-    first-line = refl;
-    first-again = refl;
-  };
-  bounds = record {
-    number-most = refl;
-    number-above = refl;
-    least-on-the-way = refl;
-    below-on-the-way = refl;
-    sum-least = refl;
-    sum-below = refl;
-    sum-most = refl;
-    sum-above = refl;
-    product-most = refl;
-    product-above = refl;
-    product-on-the-way = refl;
-    in-brackets = refl;
-    left-to-right = refl;
-    too-long = refl;
-    too-long-behind = refl;
-    zeros-before = refl;
-    constant-most = refl;
-    constant-above = refl;
-    constant-least = refl;
-    constant-below = refl;
-    offset-most = refl;
-    offset-above = refl;
-    offset-least = refl;
-    offset-below = refl;
-    data-least = refl;
-    data-below = refl;
-  };
-  passing-through = record { names = refl; plain = refl; way = refl };
-  many = record {
-    last-word = refl;
-    one-too-many = refl;
-    each-after = refl;
-    no-word = refl;
-    outside-first = refl;
-    unknown-first = refl;
-    counted-on = refl;
-  };
-  assembling = record {
-    written = refl;
-    just-fits = refl;
-    too-short = refl;
-    no-words = refl;
-    a-fault = refl;
-  };
-}
+unfolding read digit capital small in-word blank lower hex digit-value words signs hexadecimal-of number-of token-of class lies bounded lines reading readings wordsIn defined first inField from meaning assemble allBytes section listed imageBytes firstOf writeChecks writeVerdict write
+samples =
+    record { sheet = search refl; names = search refl; order = search refl; bounds = search refl; passing-through = search refl; many = search refl; assembling = search refl }

@@ -9,8 +9,9 @@ use borrow.Author.Tests.{le-leb, lt-leb, leb-true, leb-false}
 use lib.Dec.{eqb, leb}
 use lib.ListN.{length, drop, length-drop, drop-of-length-le}
 use lib.Seq.{drop-drop, drop-cons}
+use Rattle.numerals.specs.Bytes.{feed}
 use Rattle.grammar.specs.Laws.Runs.{lineOf, lineAt, lineEnd}
-use Rattle.sources.specs.Texts.{feed, onto, lines, Reading, reading, readings}
+use Rattle.sources.specs.Texts.{onto, lines, Reading, reading, readings}
 use Rattle.sources.specs.Laws.Places.{readingsFrom}
 
 -- ---- the first line, and the lines behind it

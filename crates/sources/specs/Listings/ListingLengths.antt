@@ -8,8 +8,9 @@ use lib.ListN.{length, length-append}
 use Rattle.common.specs.Answers as answer
 use Rattle.grammar.specs.Tokens.{Mnemonic, Nop, Halt, Const, Bnz, one, two, three}
 use Rattle.grammar.specs.Laws.Tables.{picks}
-use Rattle.sources.specs.Listing.{decimal, registerText, offsetText, wordText, listing}
-use Rattle.sources.specs.Listings.ListingDigits.{width-most, length-decimal, length-digits}
+use Rattle.numerals.specs.Numerals.{decimal}
+use Rattle.sources.specs.Listing.{registerText, offsetText, wordText, listing}
+use Rattle.numerals.specs.Laws.Widths.{width-most, length-decimal, length-digits}
 use Rattle.sources.specs.Listings.ListingRows.{Fits, letters, behind, mnemonic-fits, name-short, operands-behind}
 use Rattle.sources.specs.Listings.ListingWords.{of-word}
 

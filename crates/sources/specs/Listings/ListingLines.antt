@@ -15,19 +15,21 @@ use Rattle.grammar.specs.Laws.Opcodes as Opcodes
 use Rattle.grammar.specs.Trees as tree
 use Rattle.grammar.specs.Trees.{Expr, product, negative, factor, literal, Instruction, nop, halt, constant, moving, computing, jumping, branching, Line, depth, depthI, depthE}
 use Rattle.grammar.specs.Grammar.{Choices, deepest, writeE, writeI, write}
-use Rattle.grammar.specs.Bytes.{bytes}
+use Rattle.numerals.specs.Bytes.{bytes, feed}
 use Rattle.grammar.specs.Spelling as spelling
 use Rattle.grammar.specs.Spelling.{digit, capital, small, in-word, lower, every, words, signs, Spells, known, Apart, Text, ends, gap, sign, word, uncommented}
 use Rattle.grammar.specs.Reading.Lexer.{find}
 use Rattle.grammar.specs.Reading.Reader.{got, chosen}
 use Rattle.common.specs.Laws.Tests.{clash, both}
 use Rattle.grammar.specs.Laws.Tables.{picks, find-at, each, at-each}
-use Rattle.grammar.specs.Laws.Digits.{glyph, digits, digits-every, decimal-spells, hexadecimal-spells}
+use Rattle.numerals.specs.Numerals.{glyph, digits}
+use Rattle.grammar.specs.Laws.Digits.{digits-every, decimal-spells, hexadecimal-spells}
 use Rattle.grammar.specs.Laws.SourceVerdicts.{source-exactly}
-use Rattle.sources.specs.Texts.{feed, lines, reading}
-use Rattle.sources.specs.Listing.{widthBy, width, decimal, blank, registerText, offsetText, operands, numberText}
+use Rattle.sources.specs.Texts.{lines, reading}
+use Rattle.numerals.specs.Numerals.{widthBy, width, decimal}
+use Rattle.sources.specs.Listing.{blank, registerText, offsetText, operands, numberText}
 use Rattle.sources.specs.Listings.ListingRows.{AllBelow, none, _and_, below, behind, Fits, name, mnemonicOf, name-found, name-inside, mnemonic-fits, operands-behind}
-use Rattle.sources.specs.Listings.ListingDigits.{width-enough, width-some, length-digits}
+use Rattle.numerals.specs.Laws.Widths.{width-enough, width-some, length-digits}
 
 -- ---- words and what follows them
 

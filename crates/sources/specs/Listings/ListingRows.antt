@@ -12,10 +12,11 @@ use Rattle.common.specs.Words.{Row, uses, row, instruction}
 use Rattle.common.specs.Laws.WordLaws.{Allowed}
 use Rattle.grammar.specs.Tokens.{Token, mnemonic, Mnemonic, Nop, Halt, Const, Bnz, one, two, three, opcode}
 use Rattle.grammar.specs.Laws.Opcodes as Opcodes
-use Rattle.grammar.specs.Bytes.{bytes}
+use Rattle.numerals.specs.Bytes.{bytes}
 use Rattle.grammar.specs.Spelling.{digit, capital, small, in-word, lower, every, words}
 use Rattle.grammar.specs.Reading.Lexer.{find}
-use Rattle.sources.specs.Listing.{decimal, blank, registerText, offsetText, mnemonics, operands}
+use Rattle.numerals.specs.Numerals.{decimal}
+use Rattle.sources.specs.Listing.{blank, registerText, offsetText, mnemonics, operands}
 
 -- ---- what holds of each number below k
 

@@ -9,7 +9,8 @@ use borrow.Author.Tests.{le-leb, lt-leb, leb-true, leb-false}
 use lib.Dec.{leb}
 use lib.ListN.{length}
 use Rattle.common.specs.Answers as answer
-use Rattle.rules.specs.Images.{over, imageBytes, writeVerdict, write}
+use Rattle.common.specs.Tables.{firstOf}
+use Rattle.rules.specs.Images.{over, imageBytes, writeChecks, writeVerdict, write}
 use Rattle.images.specs.Sections.{written}
 use Rattle.sources.specs.Meaning.{Meaning, says, refused, meaning, Assembled, noRegisters, assemble}
 use Rattle.sources.specs.Laws.LineNumbers.{fault-range}
@@ -52,11 +53,11 @@ module _ (text out : List ℕ) where
       rw (f .said, written (f .words) noRegisters 0 out (f .some) m (f .some) (f .room)) refl
 
   pub assemble-no-words : meaning text ≡ says [] → assemble text out ≡ refusal answer.bad-size 0 out
-  unfolding assemble write writeVerdict
+  unfolding assemble write writeVerdict writeChecks firstOf
   assemble-no-words h = rw h refl
 
   pub assemble-short : TooShort text out → assemble text out ≡ refusal answer.short-buffer 0 out
-  unfolding assemble write writeVerdict
+  unfolding assemble write writeVerdict writeChecks firstOf
   assemble-short f =
       let m = says-most text (f .words) (f .said) in
       simp (f .said, le-leb 1 (length (f .words)) (f .some), le-leb (length (f .words)) 2048 m, lt-leb (length (imageFor (f .words))) (length out) (f .short))

@@ -5,30 +5,6 @@ use Rattle.syntax.specs.Levels.{too-deep, deeper, not-open, shallower, a
 use Rattle.syntax.proofs.level.Statement.{statement}
 use Rattle.syntax.proofs.level.Tie as tie
 
-returns : tie.Need-returns
-returns c = too-deep _ _ (c .before .if1 .taken) (c .if2 .taken)
-
-add-result : tie.Need-add-result
-add-result c = search needs
-
-returns-2 : tie.Need-returns-2
-returns-2 c = deeper _ _ (c .before .if1 .taken) (c .if2 .left)
-
-returns-3 : tie.Need-returns-3
-returns-3 c = not-open _ _ (c .before .if3 .taken) (c .if4 .taken)
-
-sub-result : tie.Need-sub-result
-sub-result c = search needs
-
-returns-4 : tie.Need-returns-4
-returns-4 c = shallower _ _ (c .before .if3 .taken) (c .if4 .left)
-
-returns-5 : tie.Need-returns-5
-returns-5 c = at-none _ (c .before .before .if1 .left) (c .before .if3 .left) _ (c .if5 .taken)
-
-outside-requires : tie.Need-outside-requires
-outside-requires c κs = search needs
-
 returns-6 : tie.Need-returns-6
 returns-6 c = not-outside _ (c .before .before .before .before .if1 .left) (c .before .before .before .if3 .left) _ (c .before .before .if5 .left) (sym (c .before .outside .ensures) ∙ c .if6 .taken)
 
@@ -38,14 +14,7 @@ returns-7 c = same _ (c .before .before .before .before .if1 .left) (c .before .
 pub level-spec : {M : Type 1} → statement M
 level-spec =
     tie.close
-    (tie.spec
-    returns
-    add-result
-    returns-2
-    returns-3
-    sub-result
-    returns-4
-    returns-5
-    outside-requires
-    returns-6
-    returns-7)
+    (tie.spec (λ c. too-deep _ _ (c .before .if1 .taken) (c .if2 .taken)) (λ c. search needs)
+    (λ c. deeper _ _ (c .before .if1 .taken) (c .if2 .left)) (λ c. not-open _ _ (c .before .if3 .taken) (c .if4 .taken))
+    (λ c. search needs) (λ c. shallower _ _ (c .before .if3 .taken) (c .if4 .left))
+    (λ c. at-none _ (c .before .before .if1 .left) (c .before .if3 .left) _ (c .if5 .taken)) _ returns-6 returns-7)

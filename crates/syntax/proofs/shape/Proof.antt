@@ -17,32 +17,8 @@ Inv-loop text at rows place₀ state₀ depth₀ place state depth = Passing tex
 abbrev μ-loop : tie.MeasureT-loop
 μ-loop text at rows place₀ state₀ depth₀ place state depth = length text - place
 
-table-requires : tie.Need-table-requires Inv-loop μ-loop
-table-requires c κs = tt
-
-loop-holds : tie.Need-loop-holds Inv-loop μ-loop
-loop-holds c = begins _ _
-
-token-requires : tie.Need-token-requires Inv-loop μ-loop
-token-requires c κs = tt
-
-level-requires : tie.Need-level-requires Inv-loop μ-loop
-level-requires c κs = c .before .loop .inv .shallow
-
 returns : tie.Need-returns Inv-loop μ-loop
 returns c = refused _ _ _ (c .before .before .token .ensures) _ _ _ (c .before .before .before .loop .inv) _ (c .before .level .ensures) (c .if1 .taken)
-
-cast-next : tie.Need-cast-next Inv-loop μ-loop
-cast-next c = search needs
-
-mul-next : tie.Need-mul-next Inv-loop μ-loop
-mul-next c = search needs
-
-index-1-next : tie.Need-index-1-next Inv-loop μ-loop
-index-1-next c = c .before .before .before .loop .inv .row
-
-index-2-next : tie.Need-index-2-next Inv-loop μ-loop
-index-2-next c = kind-below _ _ _ (c .before .before .token .ensures)
 
 cast-result : tie.Need-cast-result Inv-loop μ-loop
 cast-result c = omega (arith, entry-small _ _ (c .before .before .before .before .before .loop .inv .row) (kind-below _ _ _ (c .before .before .before .before .token .ensures)) _ (c .before .before .before .before .before .before .table .ensures))
@@ -65,21 +41,6 @@ loop-again c = goes-on _ _ _ (c .before .before .before .before .before .token .
 pub shape-spec : {M : Type 1} → statement M
 shape-spec =
     tie.close
-    (tie.spec
-    Inv-loop
-    μ-loop
-    table-requires
-    loop-holds
-    token-requires
-    level-requires
-    returns
-    cast-next
-    mul-next
-    index-1-next
-    index-2-next
-    cast-result
-    returns-2
-    returns-3
-    cast-state
-    loop-less
-    loop-again)
+    (tie.spec Inv-loop μ-loop _ (λ c. begins _ _) _ (λ c κs. c .before .loop .inv .shallow) returns (λ c. search needs)
+    (λ c. search needs) (λ c. c .before .before .before .loop .inv .row)
+    (λ c. kind-below _ _ _ (c .before .before .token .ensures)) cast-result returns-2 returns-3 cast-state loop-less loop-again)

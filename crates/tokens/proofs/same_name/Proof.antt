@@ -15,21 +15,6 @@ Inv-loop text a b p₀ q₀ p q = same (nameAt text a) (nameAt text b) ≡ same 
 abbrev μ-loop : tie.MeasureT-loop
 μ-loop text a b p₀ q₀ p q = length text - p
 
-loop-holds : tie.Need-loop-holds Inv-loop μ-loop
-loop-holds c = refl
-
-byte-requires : tie.Need-byte-requires Inv-loop μ-loop
-byte-requires c κs = tt
-
-byte-requires-2 : tie.Need-byte-requires-2 Inv-loop μ-loop
-byte-requires-2 c κs = tt
-
-folded-requires : tie.Need-folded-requires Inv-loop μ-loop
-folded-requires c κs = tt
-
-folded-requires-2 : tie.Need-folded-requires-2 Inv-loop μ-loop
-folded-requires-2 c κs = tt
-
 returns : tie.Need-returns Inv-loop μ-loop
 returns c = let x = c .before .before .before .before .before .before .loop in
     names-end (c .before .before .before .before .before .before .before .before .args .text .now) (x .p) (x .q) _ _ (c .before .before .before .before .byte .ensures) (c .before .before .before .byte2 .ensures) _ (c .before .before .folded .ensures) (c .before .if1 .taken) _ (c .folded2 .ensures) ∙ sym (x .inv)
@@ -38,25 +23,13 @@ returns-2 : tie.Need-returns-2 Inv-loop μ-loop
 returns-2 c = let x = c .before .before .before .before .before .before .loop in
     names-differ (c .before .before .before .before .before .before .before .before .args .text .now) (x .p) (x .q) _ _ (c .before .before .before .before .byte .ensures) (c .before .before .before .byte2 .ensures) _ (c .before .before .folded .ensures) (c .before .if1 .left) (c .if2 .taken) ∙ sym (x .inv)
 
-add-p : tie.Need-add-p Inv-loop μ-loop
-add-p c = omega arith
-
 add-q : tie.Need-add-q Inv-loop μ-loop
 add-q c = let x = c .before .before .before .before .before .before .loop in
     omega (arith, second-within (c .before .before .before .before .before .before .before .before .args .text .now) (x .p) (x .q) _ _ (c .before .before .before .before .byte .ensures) (c .before .before .before .byte2 .ensures) _ (c .before .before .folded .ensures) (c .before .if1 .left) (c .if2 .left))
 
-loop-less : tie.Need-loop-less Inv-loop μ-loop
-loop-less c = omega arith
-
 loop-again : tie.Need-loop-again Inv-loop μ-loop
 loop-again c = let x = c .before .before .before .before .before .before .loop in
     x .inv ∙ names-agree (c .before .before .before .before .before .before .before .before .args .text .now) (x .p) (x .q) _ _ (c .before .before .before .before .byte .ensures) (c .before .before .before .byte2 .ensures) _ (c .before .before .folded .ensures) (c .before .if1 .left) (c .if2 .left)
-
-byte-requires-3 : tie.Need-byte-requires-3 Inv-loop μ-loop
-byte-requires-3 c κs = tt
-
-folded-requires-3 : tie.Need-folded-requires-3 Inv-loop μ-loop
-folded-requires-3 c κs = tt
 
 returns-3 : tie.Need-returns-3 Inv-loop μ-loop
 returns-3 c = let x = c .before .before .before .loop in
@@ -65,20 +38,5 @@ returns-3 c = let x = c .before .before .before .loop in
 pub same-name-spec : {M : Type 1} → statement M
 same-name-spec =
     tie.close
-    (tie.spec
-    Inv-loop
-    μ-loop
-    loop-holds
-    byte-requires
-    byte-requires-2
-    folded-requires
-    folded-requires-2
-    returns
-    returns-2
-    add-p
-    add-q
-    loop-less
-    loop-again
-    byte-requires-3
-    folded-requires-3
+    (tie.spec Inv-loop μ-loop (λ c. refl) _ _ _ _ returns returns-2 (λ c. omega arith) add-q (λ c. omega arith) loop-again _ _
     returns-3)

@@ -1,21 +1,8 @@
 -- `judge`: each return is a law of the specs.
 use mathlib.Core.Path.{_∙_}
 use Rattle.values.specs.ValueLaws.{limit-fits, judge-failed, judge-outside, judge-within}
-use borrow.Author.Needs.{needs}
 use Rattle.values.proofs.judge.Statement.{statement}
 use Rattle.values.proofs.judge.Tie as tie
-
-failed-requires : tie.Need-failed-requires
-failed-requires c κs = search needs
-
-returns : tie.Need-returns
-returns c = c .failed .ensures ∙ judge-failed _ _ _ (c .before .if1 .taken)
-
-limit-requires : tie.Need-limit-requires
-limit-requires c κs = search needs
-
-failed-requires-2 : tie.Need-failed-requires-2
-failed-requires-2 c κs = search needs
 
 returns-2 : tie.Need-returns-2
 returns-2 c = c .failed2 .ensures ∙ judge-outside _ _ _ (c .before .before .before .if1 .left) _ (c .before .before .limit .ensures) (c .before .if2 .taken)
@@ -29,4 +16,4 @@ returns-3 c = judge-within _ _ _ (c .before .before .if1 .left) _ (c .before .li
 pub judge-spec : {M : Type 1} → statement M
 judge-spec =
     tie.close
-    (tie.spec failed-requires returns limit-requires failed-requires-2 returns-2 cast-t6 returns-3)
+    (tie.spec _ (λ c. c .failed .ensures ∙ judge-failed _ _ _ (c .before .if1 .taken)) _ _ returns-2 cast-t6 returns-3)

@@ -4,15 +4,9 @@ use borrow.Author.Needs.{needs}
 use Rattle.values.proofs.negated.Statement.{statement}
 use Rattle.values.proofs.negated.Tie as tie
 
-cast-judge : tie.Need-cast-judge
-cast-judge c = search needs
-
-judge-requires : tie.Need-judge-requires
-judge-requires c κs = search needs
-
 returns : tie.Need-returns
 unfolding negated
 returns c = c .judge .ensures
 
 pub negated-spec : {M : Type 1} → statement M
-negated-spec = tie.close (tie.spec cast-judge judge-requires returns)
+negated-spec = tie.close (tie.spec (λ c. search needs) _ returns)

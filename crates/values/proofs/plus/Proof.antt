@@ -4,15 +4,9 @@ use borrow.Author.Needs.{needs}
 use Rattle.values.proofs.plus.Statement.{statement}
 use Rattle.values.proofs.plus.Tie as tie
 
-joined-requires : tie.Need-joined-requires
-joined-requires c κs = search needs
-
-sum-requires : tie.Need-sum-requires
-sum-requires c κs = search needs
-
 returns : tie.Need-returns
 unfolding plus
 returns c = rw (c .before .joined .ensures) at (c .sum .ensures)
 
 pub plus-spec : {M : Type 1} → statement M
-plus-spec = tie.close (tie.spec joined-requires sum-requires returns)
+plus-spec = tie.close (tie.spec (λ c κs. search needs) _ returns)

@@ -7,36 +7,12 @@ use borrow.Author.Needs.{needs}
 use Rattle.values.proofs.times.Statement.{statement}
 use Rattle.values.proofs.times.Tie as tie
 
-joined-requires : tie.Need-joined-requires
-joined-requires c κs = search needs
-
-same-requires : tie.Need-same-requires
-same-requires c κs = search needs
-
-cast-judge : tie.Need-cast-judge
-cast-judge c = search needs
-
-cast-judge-2 : tie.Need-cast-judge-2
-cast-judge-2 c = search needs
-
 mul-judge : tie.Need-mul-judge
 mul-judge c = let h : c .before .before .args .v .magnitude * c .before .before .args .w .magnitude ≤ 4294967295 * 4294967295 = mul-le-mul {n₂ = 4294967295} {m₂ = 4294967295} (omega arith) (omega arith) in record { fits = omega arith }
-
-judge-requires : tie.Need-judge-requires
-judge-requires c κs = search needs
 
 returns : tie.Need-returns
 unfolding times
 returns c = rw (c .before .before .joined .ensures, c .before .same .ensures) at (c .judge .ensures)
 
 pub times-spec : {M : Type 1} → statement M
-times-spec =
-    tie.close
-    (tie.spec
-    joined-requires
-    same-requires
-    cast-judge
-    cast-judge-2
-    mul-judge
-    judge-requires
-    returns)
+times-spec = tie.close (tie.spec (λ c κs. search needs) _ (λ c. search needs) (λ c. search needs) mul-judge _ returns)

@@ -7,9 +7,6 @@ use borrow.Author.Needs.{needs}
 use Rattle.writer.proofs.put_image.Statement.{statement}
 use Rattle.writer.proofs.put_image.Tie as tie
 
-listed-count-requires : tie.Need-listed-count-requires
-listed-count-requires c κs = search needs
-
 put-section-requires : tie.Need-put-section-requires
 put-section-requires c κs = let g = c .before .before .before .before .before .args in
     let l = length-image (g .words .now) (g .regs .now) (g .entry) in omega arith
@@ -20,15 +17,9 @@ put-section-requires-2 c κs = let g = c .before .before .before .before .before
     let s = listed-short (g .regs .now) in
     omega arith
 
-slice-aggregate-put-section : tie.Need-slice-aggregate-put-section
-slice-aggregate-put-section c = search needs
-
 put-section-requires-3 : tie.Need-put-section-requires-3
 put-section-requires-3 c κs = let g = c .before .before .before .before .before .before .before .before .before .before .before .before .before .before .before .args in
     let l = length-image (g .words .now) (g .regs .now) (g .entry) in omega arith
-
-same-length : tie.Need-same-length
-same-length c = search needs
 
 returns : tie.Need-returns
 returns c = let g = c .before .before .before .before .before .before .before .before .before .before .before .before .before .before .before .before .before .before .args in
@@ -42,11 +33,4 @@ returns c = let g = c .before .before .before .before .before .before .before .b
 pub put-image-spec : {M : Type 1} → statement M
 put-image-spec =
     tie.close
-    (tie.spec
-    listed-count-requires
-    put-section-requires
-    put-section-requires-2
-    slice-aggregate-put-section
-    put-section-requires-3
-    same-length
-    returns)
+    (tie.spec _ put-section-requires put-section-requires-2 (λ c. search needs) put-section-requires-3 (λ c. search needs) returns)

@@ -6,24 +6,6 @@ use borrow.Author.Needs.{needs}
 use Rattle.writer.proofs.verdict.Statement.{statement}
 use Rattle.writer.proofs.verdict.Tie as tie
 
-returns : tie.Need-returns
-returns c = no-words _ _ _ _ (c .if1 .taken)
-
-returns-2 : tie.Need-returns-2
-returns-2 c = many-words _ _ _ _ (c .before .if1 .left) (c .if2 .taken)
-
-returns-3 : tie.Need-returns-3
-returns-3 c = bad-entry _ _ _ _ (c .before .before .if1 .left) (c .before .if2 .left) (c .if3 .taken)
-
-listed-count-requires : tie.Need-listed-count-requires
-listed-count-requires c κs = search needs
-
-mul-length : tie.Need-mul-length
-mul-length c = search needs
-
-add-length : tie.Need-add-length
-add-length c = search needs
-
 mul-length-2 : tie.Need-mul-length-2
 mul-length-2 c = let k = short (c .before .before .before .before .before .before .before .args .regs .now) _ (c .listed-count .ensures) (c .before .listed-count-arg .given .0) in omega arith
 
@@ -39,14 +21,6 @@ returns-5 c = has-room _ (c .before .before .before .before .before .before .bef
 pub verdict-spec : {M : Type 1} → statement M
 verdict-spec =
     tie.close
-    (tie.spec
-    returns
-    returns-2
-    returns-3
-    listed-count-requires
-    mul-length
-    add-length
-    mul-length-2
-    add-length-2
-    returns-4
-    returns-5)
+    (tie.spec (λ c. no-words _ _ _ _ (c .if1 .taken)) (λ c. many-words _ _ _ _ (c .before .if1 .left) (c .if2 .taken))
+    (λ c. bad-entry _ _ _ _ (c .before .before .if1 .left) (c .before .if2 .left) (c .if3 .taken)) _ (λ c. search needs)
+    (λ c. search needs) mul-length-2 add-length-2 returns-4 returns-5)

@@ -2,7 +2,6 @@
 use mathlib.Core.Path.{_≡_}
 use Prim.Native.Nat.{_+_, _-_, _≤_}
 use native.Mathlib.Omega.{arith}
-use borrow.Author.Needs.{needs}
 use lib.ListN.{length, take}
 use Rattle.sources.specs.Laws.PlaceLaws.{line-end-within}
 use Rattle.sources.specs.Laws.Walks.{Walked, walk-starts}
@@ -18,29 +17,8 @@ Inv-loop text table complete words₀ at₀ line₀ count₀ words at line count
 abbrev μ-loop : tie.MeasureT-loop
 μ-loop text table complete words₀ at₀ line₀ count₀ words at line count = length text + 1 - at
 
-loop-holds : tie.Need-loop-holds Inv-loop μ-loop
-loop-holds c = (omega arith, omega arith, omega arith, c .before .pre .1, walk-starts _)
-
-shape-requires : tie.Need-shape-requires Inv-loop μ-loop
-shape-requires c κs = search needs
-
-judge-requires : tie.Need-judge-requires Inv-loop μ-loop
-judge-requires c κs = search needs
-
-add-t12 : tie.Need-add-t12 Inv-loop μ-loop
-add-t12 c = omega arith
-
 returns : tie.Need-returns Inv-loop μ-loop
 returns c = (emit-refuses _ _ (c .before .before .before .before .before .before .before .pre .0) _ _ _ _ (c .before .before .before .before .before .loop .inv .4) (c .before .before .before .before .loop-test .taken) _ (c .before .before .before .shape .ensures) _ (c .before .before .judge .ensures) (c .if1 .taken), omega arith)
-
-keep-requires : tie.Need-keep-requires Inv-loop μ-loop
-keep-requires c κs = search needs
-
-add-line : tie.Need-add-line Inv-loop μ-loop
-add-line c = omega arith
-
-line-end-requires : tie.Need-line-end-requires Inv-loop μ-loop
-line-end-requires c κs = search needs
 
 add-at : tie.Need-add-at Inv-loop μ-loop
 add-at c = let w = line-end-within _ _ (c .before .before .before .before .before .before .before .loop-test .taken) _ (c .line-end .ensures) in omega (arith, w .1)
@@ -65,18 +43,5 @@ returns-2 c = (emit-ends _ _ (c .before .before .before .pre .0) _ _ _ _ (c .bef
 pub emit-spec : {M : Type 1} → statement M
 emit-spec =
     tie.close
-    (tie.spec
-    Inv-loop
-    μ-loop
-    loop-holds
-    shape-requires
-    judge-requires
-    add-t12
-    returns
-    keep-requires
-    add-line
-    line-end-requires
-    add-at
-    loop-less
-    loop-again
-    returns-2)
+    (tie.spec Inv-loop μ-loop (λ c. (omega arith, omega arith, omega arith, c .before .pre .1, walk-starts _)) _ _
+    (λ c. omega arith) returns _ (λ c. omega arith) _ add-at loop-less loop-again returns-2)

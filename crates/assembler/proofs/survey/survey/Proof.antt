@@ -1,7 +1,6 @@
 -- The table holds the labels of the lines so far, and what lies ahead tells the others.
 use Prim.Native.Nat.{_+_, _-_, _≤_}
 use native.Mathlib.Omega.{arith}
-use borrow.Author.Needs.{needs}
 use lib.ListN.{length}
 use Rattle.sources.specs.Laws.PlaceLaws.{line-end-within}
 use Rattle.labels.specs.LineLaws.{held-small}
@@ -15,29 +14,8 @@ Inv-loop text table₀ at₀ line₀ words₀ table at line words = (at ≤ leng
 abbrev μ-loop : tie.MeasureT-loop
 μ-loop text table₀ at₀ line₀ words₀ table at line words = length text + 1 - at
 
-loop-holds : tie.Need-loop-holds Inv-loop μ-loop
-loop-holds c = (omega arith, omega arith, omega arith, survey-starts _ _ (c .before .pre))
-
-shape-requires : tie.Need-shape-requires Inv-loop μ-loop
-shape-requires c κs = search needs
-
-note-requires : tie.Need-note-requires Inv-loop μ-loop
-note-requires c κs = search needs
-
 returns : tie.Need-returns Inv-loop μ-loop
 returns c = survey-full _ _ _ _ _ (c .before .before .before .before .before .loop .inv .3) (c .before .before .before .before .loop-test .taken) _ (c .before .before .before .shape .ensures) _ _ (c .before .note .ensures) (c .if1 .taken)
-
-held-requires : tie.Need-held-requires Inv-loop μ-loop
-held-requires c κs = search needs
-
-add-words : tie.Need-add-words Inv-loop μ-loop
-add-words c = let k = held-small _ _ (c .held .ensures) in omega (arith, k)
-
-add-line : tie.Need-add-line Inv-loop μ-loop
-add-line c = omega arith
-
-line-end-requires : tie.Need-line-end-requires Inv-loop μ-loop
-line-end-requires c κs = search needs
 
 add-at : tie.Need-add-at Inv-loop μ-loop
 add-at c = let w = line-end-within _ _ (c .before .before .before .before .before .before .loop-test .taken) _ (c .line-end .ensures) in omega (arith, w .1)
@@ -55,24 +33,9 @@ loop-again c =
       survey-goes _ _ _ _ _ (c .before .before .before .before .before .before .before .loop .inv .3) (c .before .before .before .before .before .before .loop-test .taken) _ (c .before .before .before .before .before .shape .ensures) _ _ (c .before .before .before .note .ensures) (c .before .before .if1 .left) _ _ (c .before .held .ensures) (c .line-end .ensures),
     )
 
-returns-2 : tie.Need-returns-2 Inv-loop μ-loop
-returns-2 c = survey-ends _ _ _ _ _ (c .before .loop .inv .3) (c .loop-test .left)
-
 pub survey-spec : {M : Type 1} → statement M
 survey-spec =
     tie.close
-    (tie.spec
-    Inv-loop
-    μ-loop
-    loop-holds
-    shape-requires
-    note-requires
-    returns
-    held-requires
-    add-words
-    add-line
-    line-end-requires
-    add-at
-    loop-less
-    loop-again
-    returns-2)
+    (tie.spec Inv-loop μ-loop (λ c. (omega arith, omega arith, omega arith, survey-starts _ _ (c .before .pre))) _ _ returns _
+    (λ c. let k = held-small _ _ (c .held .ensures) in omega (arith, k)) (λ c. omega arith) _ add-at loop-less loop-again
+    (λ c. survey-ends _ _ _ _ _ (c .before .loop .inv .3) (c .loop-test .left)))

@@ -9,12 +9,9 @@ use Rattle.compartments.proofs.Set.contains.Tie as tie
 returns : tie.Need-returns
 returns c = sym (member-high (c .before .args .self .0) (c .before .args .number) (search needs) (c .if1 .taken))
 
-shr-result : tie.Need-shr-result
-shr-result c = search needs
-
 returns-2 : tie.Need-returns-2
 unfolding member
 returns-2 c = search needs
 
 pub contains-spec : {M : Type 1} → statement M
-contains-spec = tie.close (tie.spec returns shr-result returns-2)
+contains-spec = tie.close (tie.spec returns (λ c. search needs) returns-2)

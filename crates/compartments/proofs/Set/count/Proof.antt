@@ -4,8 +4,5 @@ use Rattle.compartments.specs.CountLaws.{ones-size}
 use Rattle.compartments.proofs.Set.count.Statement.{statement}
 use Rattle.compartments.proofs.Set.count.Tie as tie
 
-returns : tie.Need-returns
-returns c = ones-size 64 (c .args .self .0) (search needs)
-
 pub count-spec : {M : Type 1} → statement M
-count-spec = tie.close (tie.spec returns)
+count-spec = tie.close (tie.spec (λ c. ones-size 64 (c .args .self .0) (search needs)))

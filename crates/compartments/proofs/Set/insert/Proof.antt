@@ -12,12 +12,9 @@ returns : tie.Need-returns
 unfolding insert
 returns c = simp (le-ltb _ _ (c .if1 .taken))
 
-shl-t6 : tie.Need-shl-t6
-shl-t6 c = search needs
-
 returns-2 : tie.Need-returns-2
 unfolding insert
 returns-2 c = ap (bitOr (c .before .args .self .0)) (one-shl 64 (c .before .args .number) (c .if1 .left)) ∙ simp (lt-ltb _ _ (c .if1 .left))
 
 pub insert-spec : {M : Type 1} → statement M
-insert-spec = tie.close (tie.spec returns shl-t6 returns-2)
+insert-spec = tie.close (tie.spec returns (λ c. search needs) returns-2)

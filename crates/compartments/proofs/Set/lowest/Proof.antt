@@ -3,8 +3,5 @@ use Rattle.compartments.specs.CountLaws.{zeros-lowest}
 use Rattle.compartments.proofs.Set.lowest.Statement.{statement}
 use Rattle.compartments.proofs.Set.lowest.Tie as tie
 
-returns : tie.Need-returns
-returns c = zeros-lowest (c .args .self .0)
-
 pub lowest-spec : {M : Type 1} → statement M
-lowest-spec = tie.close (tie.spec returns)
+lowest-spec = tie.close (tie.spec (λ c. zeros-lowest (c .args .self .0)))

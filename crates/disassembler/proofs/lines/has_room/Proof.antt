@@ -15,24 +15,9 @@ Inv-loop words room n₀ i₀ n i = (i ≤ length words) × (n ≡ length (listi
 abbrev μ-loop : tie.MeasureT-loop
 μ-loop words room n₀ i₀ n i = length words - i
 
-mul-if1 : tie.Need-mul-if1 Inv-loop μ-loop
-mul-if1 c = omega arith
-
-returns : tie.Need-returns Inv-loop μ-loop
-returns c = ample _ _ (c .if1 .taken)
-
 loop-holds : tie.Need-loop-holds Inv-loop μ-loop
 unfolding listing
 loop-holds c = (omega arith, omega arith)
-
-mul-word-length : tie.Need-mul-word-length Inv-loop μ-loop
-mul-word-length c = omega arith
-
-shared-slice-read-word-length : tie.Need-shared-slice-read-word-length Inv-loop μ-loop
-shared-slice-read-word-length c = omega arith
-
-word-length-requires : tie.Need-word-length-requires Inv-loop μ-loop
-word-length-requires c κs = omega arith
 
 add-n : tie.Need-add-n Inv-loop μ-loop
 add-n c = let g = c .before .before .before .before .before .before .args in
@@ -44,12 +29,6 @@ add-n-2 c = let g = c .before .before .before .before .before .before .args in
     let f = listing-fits (g .words .now) in
     let r = line-room (g .words .now) (c .before .before .before .loop .i) (c .before .before .loop-test .taken) in omega arith
 
-add-i : tie.Need-add-i Inv-loop μ-loop
-add-i c = omega arith
-
-loop-less : tie.Need-loop-less Inv-loop μ-loop
-loop-less c = omega arith
-
 loop-again : tie.Need-loop-again Inv-loop μ-loop
 loop-again c = let l = length-more (c .before .before .before .before .before .before .args .words .now) (c .before .before .before .loop .i) (c .before .before .loop-test .taken) in (omega arith, omega arith)
 
@@ -59,18 +38,5 @@ returns-2 c = measured (c .before .before .before .before .args .words .now) _ _
 pub has-room-spec : {M : Type 1} → statement M
 has-room-spec =
     tie.close
-    (tie.spec
-    Inv-loop
-    μ-loop
-    mul-if1
-    returns
-    loop-holds
-    mul-word-length
-    shared-slice-read-word-length
-    word-length-requires
-    add-n
-    add-n-2
-    add-i
-    loop-less
-    loop-again
-    returns-2)
+    (tie.spec Inv-loop μ-loop (λ c. omega arith) (λ c. ample _ _ (c .if1 .taken)) loop-holds (λ c. omega arith) (λ c. omega arith)
+    (λ c κs. omega arith) add-n add-n-2 (λ c. omega arith) (λ c. omega arith) loop-again returns-2)

@@ -15,15 +15,6 @@ Inv-loop out₀ words at₀ i₀ out at i = (i ≤ length words) × (length out 
 abbrev μ-loop : tie.MeasureT-loop
 μ-loop out₀ words at₀ i₀ out at i = length words - i
 
-loop-holds : tie.Need-loop-holds Inv-loop μ-loop
-loop-holds c = (omega arith, refl, no-lines (c .before .before .args .words .now) _)
-
-mul-store-word : tie.Need-mul-store-word Inv-loop μ-loop
-mul-store-word c = omega arith
-
-shared-slice-read-store-word : tie.Need-shared-slice-read-store-word Inv-loop μ-loop
-shared-slice-read-store-word c = omega arith
-
 store-word-requires : tie.Need-store-word-requires Inv-loop μ-loop
 store-word-requires c κs = let r = line-room (c .before .before .before .before .before .before .args .words .now) (c .before .before .before .loop .i) (c .before .before .loop-test .taken) in omega arith
 
@@ -33,37 +24,14 @@ slice-write-out c = let r = line-room (c .before .before .before .before .before
 add-at : tie.Need-add-at Inv-loop μ-loop
 add-at c = let r = line-room (c .before .before .before .before .before .before .before .before .before .args .words .now) (c .before .before .before .before .before .before .loop .i) (c .before .before .before .before .before .loop-test .taken) in omega arith
 
-add-i : tie.Need-add-i Inv-loop μ-loop
-add-i c = omega arith
-
-loop-less : tie.Need-loop-less Inv-loop μ-loop
-loop-less c = omega arith
-
 loop-again : tie.Need-loop-again Inv-loop μ-loop
 loop-again c = let x = c .before .before .before .before .before .before .loop in
     let s = line-stored (c .before .before .before .before .before .before .before .before .before .args .words .now) (x .i) (c .before .before .before .before .before .loop-test .taken) _ _ _ _ _ (x .inv .2) (c .before .before .store-word .ensures) in
     (omega arith, stored-length _ _ _ _ _ s, s)
 
-same-length : tie.Need-same-length Inv-loop μ-loop
-same-length c = c .before .loop .inv .1
-
-returns : tie.Need-returns Inv-loop μ-loop
-returns c = rw (listing-all _ _ (c .loop-test .left)) at (c .before .loop .inv .2)
-
 pub store-listing-spec : {M : Type 1} → statement M
 store-listing-spec =
     tie.close
-    (tie.spec
-    Inv-loop
-    μ-loop
-    loop-holds
-    mul-store-word
-    shared-slice-read-store-word
-    store-word-requires
-    slice-write-out
-    add-at
-    add-i
-    loop-less
-    loop-again
-    same-length
-    returns)
+    (tie.spec Inv-loop μ-loop (λ c. (omega arith, refl, no-lines (c .before .before .args .words .now) _)) (λ c. omega arith)
+    (λ c. omega arith) store-word-requires slice-write-out add-at (λ c. omega arith) (λ c. omega arith) loop-again
+    (λ c. c .before .loop .inv .1) (λ c. rw (listing-all _ _ (c .loop-test .left)) at (c .before .loop .inv .2)))

@@ -4,14 +4,5 @@ use borrow.Author.Needs.{needs}
 use Rattle.disassembler.proofs.names.letters.Statement.{statement}
 use Rattle.disassembler.proofs.names.letters.Tie as tie
 
-mul-result : tie.Need-mul-result
-mul-result c = search needs
-
-array-read-result : tie.Need-array-read-result
-array-read-result c = search needs
-
-returns : tie.Need-returns
-returns c = counts-name _ (c .pre)
-
 pub letters-spec : {M : Type 1} → statement M
-letters-spec = tie.close (tie.spec mul-result array-read-result returns)
+letters-spec = tie.close (tie.spec (λ c. search needs) (λ c. search needs) (λ c. counts-name _ (c .pre)))

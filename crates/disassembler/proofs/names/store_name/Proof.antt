@@ -5,20 +5,8 @@ use borrow.Author.Needs.{needs}
 use Rattle.disassembler.proofs.names.store_name.Statement.{statement}
 use Rattle.disassembler.proofs.names.store_name.Tie as tie
 
-letters-requires : tie.Need-letters-requires
-letters-requires c κs = search needs
-
-mul-first : tie.Need-mul-first
-mul-first c = search needs
-
-slice-aggregate-store-part : tie.Need-slice-aggregate-store-part
-slice-aggregate-store-part c = search needs
-
 store-part-requires : tie.Need-store-part-requires
 store-part-requires c κs = let h = names-reach _ (c .before .before .before .before .pre .0) in (omega arith, omega arith)
-
-same-length : tie.Need-same-length
-same-length c = search needs
 
 returns : tie.Need-returns
 returns c = name-stored _ _ _ _ _ _ (c .before .before .before .before .before .before .before .pre .0) (c .before .before .before .before .before .letters .ensures) (c .before .before .store-part .ensures)
@@ -26,10 +14,4 @@ returns c = name-stored _ _ _ _ _ _ (c .before .before .before .before .before .
 pub store-name-spec : {M : Type 1} → statement M
 store-name-spec =
     tie.close
-    (tie.spec
-    letters-requires
-    mul-first
-    slice-aggregate-store-part
-    store-part-requires
-    same-length
-    returns)
+    (tie.spec (λ c κs. search needs) (λ c. search needs) (λ c. search needs) store-part-requires (λ c. search needs) returns)

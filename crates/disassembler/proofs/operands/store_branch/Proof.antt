@@ -2,7 +2,7 @@
 use mathlib.Core.List.{_++_}
 use native.Mathlib.Omega.{arith}
 use lib.ListN.{length-set}
-use Rattle.grammar.specs.Bytes.{bytes}
+use Rattle.numerals.specs.Bytes.{bytes}
 use Rattle.sources.specs.Listing.{blank, registerText, offsetText}
 use Rattle.disassembler.specs.Stores.{joined, stored-two, stored-joins, stored-length}
 use Rattle.disassembler.proofs.operands.store_branch.Statement.{statement}
@@ -36,18 +36,8 @@ returns : tie.Need-returns
 returns c = let g = c .before .before .before .before .before .before .before .before .before .args in
     stored-joins (g .out .now) (g .at) (blank ++ registerText (g .a)) (bytes ", ") (offsetText (g .low)) _ _ _ _ (c .before .before .before .before .before .before .store-register .ensures) (stored-two _ _ 44 32 (offsetText (g .low)) _ _ (c .before .before .store-offset .ensures))
 
-same-length : tie.Need-same-length
-same-length c = stored-length _ _ _ _ _ (returns c)
-
 pub store-branch-spec : {M : Type 1} → statement M
 store-branch-spec =
     tie.close
-    (tie.spec
-    store-register-requires
-    slice-write-out
-    add-out
-    slice-write-out-2
-    add-store-offset
-    store-offset-requires
-    same-length
-    returns)
+    (tie.spec store-register-requires slice-write-out add-out slice-write-out-2 add-store-offset store-offset-requires
+    (λ c. stored-length _ _ _ _ _ (returns c)) returns)

@@ -2,17 +2,12 @@
 use mathlib.Core.List.{_++_}
 use native.Mathlib.Omega.{arith}
 use lib.ListN.{length-set}
-use Rattle.sources.specs.Listing.{decimal, blank, registerText}
+use Rattle.numerals.specs.Numerals.{decimal}
+use Rattle.sources.specs.Listing.{blank, registerText}
 use Rattle.disassembler.specs.Stores.{joined, stored-one, stored-joins, stored-length}
 use borrow.Author.Needs.{needs}
 use Rattle.disassembler.proofs.operands.store_constant.Statement.{statement}
 use Rattle.disassembler.proofs.operands.store_constant.Tie as tie
-
-slice-write-out : tie.Need-slice-write-out
-slice-write-out c = search needs
-
-add-store-decimal : tie.Need-add-store-decimal
-add-store-decimal c = search needs
 
 store-decimal-requires : tie.Need-store-decimal-requires
 store-decimal-requires c κs = let g = c .before .before .args in
@@ -27,16 +22,8 @@ returns : tie.Need-returns
 returns c = let g = c .before .before .before .before .before .before .before .before .before .args in
     stored-joins (g .out .now) (g .at) (blank ++ decimal (g .low)) blank (registerText (g .a)) _ _ _ _ (stored-one (g .out .now) (g .at) 32 (decimal (g .low)) _ _ (c .before .before .before .before .before .before .store-decimal .ensures)) (c .before .before .store-register .ensures)
 
-same-length : tie.Need-same-length
-same-length c = stored-length _ _ _ _ _ (returns c)
-
 pub store-constant-spec : {M : Type 1} → statement M
 store-constant-spec =
     tie.close
-    (tie.spec
-    slice-write-out
-    add-store-decimal
-    store-decimal-requires
-    store-register-requires
-    same-length
-    returns)
+    (tie.spec (λ c. search needs) (λ c. search needs) store-decimal-requires store-register-requires
+    (λ c. stored-length _ _ _ _ _ (returns c)) returns)

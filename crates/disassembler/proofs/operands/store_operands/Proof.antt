@@ -3,7 +3,7 @@ use mathlib.Core.Logic.{inl, inr, ⊎-elim}
 use mathlib.Core.Path.{ap}
 use native.Mathlib.Omega.{arith}
 use lib.ListN.{length}
-use Rattle.instructions.specs.Promises.{decoded}
+use Rattle.instructions.specs.Views.{decoded}
 use Rattle.disassembler.specs.Stores.{stored-none}
 use Rattle.disassembler.specs.Operands.{no-operands, number-register, register-offset, one-register, three-registers, two-registers}
 use borrow.Author.Needs.{needs}
@@ -28,37 +28,19 @@ store-two-requires : tie.Need-store-two-requires
 store-two-requires c κs = let n = c .before .before .match .rest in
     let e = ap length (two-registers (decoded (c .before .before .before .before .args .i)) (n .0 .0 .1) (n .0 .1) (n .1) (⊎-elim (λ w. inl (w .taken)) (⊎-elim (λ w. inr (inl (w .1 .left, w .2 .taken))) (λ w. inr (inr (w .3 .left)))) (c .before .if1 .came))) in omega arith
 
-returns : tie.Need-returns
-returns c = rw (no-operands (decoded (c .before .before .args .i)) (c .match .keys1)) (stored-none _ _)
-
-same-length : tie.Need-same-length
-same-length c = search needs
-
 returns-2 : tie.Need-returns-2
 returns-2 c = rw (number-register (decoded (c .before .before .before .before .before .before .args .i)) (c .before .before .before .before .match .keys2)) (c .before .before .store-constant .ensures)
 
-same-length-2 : tie.Need-same-length-2
-same-length-2 c = search needs
-
 returns-3 : tie.Need-returns-3
 returns-3 c = rw (register-offset (decoded (c .before .before .before .before .before .before .args .i)) (c .before .before .before .before .match .keys3)) (c .before .before .store-branch .ensures)
-
-same-length-3 : tie.Need-same-length-3
-same-length-3 c = search needs
 
 returns-4 : tie.Need-returns-4
 returns-4 c = let n = c .before .before .before .before .before .before .match .rest in
     rw (three-registers (decoded (c .before .before .before .before .before .before .before .before .args .i)) (n .0 .0 .1) (n .0 .1) (n .1) (c .before .before .before .before .before .if1 .left) (c .before .before .before .before .if2 .taken)) (c .before .before .store-three .ensures)
 
-same-length-4 : tie.Need-same-length-4
-same-length-4 c = search needs
-
 returns-5 : tie.Need-returns-5
 returns-5 c = let n = c .before .before .before .before .before .before .before .before .match .rest in
     rw (one-register (decoded (c .before .before .before .before .before .before .before .before .before .before .args .i)) (n .0 .0 .1) (n .0 .1) (n .1) (c .before .before .before .before .before .if3 .left) (c .before .before .before .before .if4 .taken)) (c .before .before .store-register .ensures)
-
-same-length-5 : tie.Need-same-length-5
-same-length-5 c = search needs
 
 returns-6 : tie.Need-returns-6
 returns-6 c = let n = c .before .before .before .before .before .match .rest in
@@ -67,20 +49,7 @@ returns-6 c = let n = c .before .before .before .before .before .match .rest in
 pub store-operands-spec : {M : Type 1} → statement M
 store-operands-spec =
     tie.close
-    (tie.spec
-    store-constant-requires
-    store-branch-requires
-    store-three-requires
-    store-register-requires
-    store-two-requires
-    returns
-    same-length
-    returns-2
-    same-length-2
-    returns-3
-    same-length-3
-    returns-4
-    same-length-4
-    returns-5
-    same-length-5
+    (tie.spec store-constant-requires store-branch-requires store-three-requires store-register-requires store-two-requires
+    (λ c. rw (no-operands (decoded (c .before .before .args .i)) (c .match .keys1)) (stored-none _ _)) (λ c. search needs)
+    returns-2 (λ c. search needs) returns-3 (λ c. search needs) returns-4 (λ c. search needs) returns-5 (λ c. search needs)
     returns-6)

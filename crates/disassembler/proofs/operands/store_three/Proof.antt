@@ -15,13 +15,9 @@ store-register-requires : tie.Need-store-register-requires
 store-register-requires c κs = let g = c .before .before .before .before .before .before .args in
     let l = joined (blank ++ registerText (g .a) ++ blank ++ registerText (g .b)) blank (registerText (g .d)) in omega arith
 
-same-length : tie.Need-same-length
-same-length c = search needs
-
 returns : tie.Need-returns
 returns c = let g = c .before .before .before .before .before .before .before .before .before .args in
     stored-joins (g .out .now) (g .at) (blank ++ registerText (g .a) ++ blank ++ registerText (g .b)) blank (registerText (g .d)) _ _ _ _ (c .before .before .before .before .before .before .store-two .ensures) (c .before .before .store-register .ensures)
 
 pub store-three-spec : {M : Type 1} → statement M
-store-three-spec =
-    tie.close (tie.spec store-two-requires store-register-requires same-length returns)
+store-three-spec = tie.close (tie.spec store-two-requires store-register-requires (λ c. search needs) returns)

@@ -15,13 +15,9 @@ store-register-requires-2 : tie.Need-store-register-requires-2
 store-register-requires-2 c κs = let g = c .before .before .before .before .before .before .args in
     let l = joined (blank ++ registerText (g .a)) blank (registerText (g .b)) in omega arith
 
-same-length : tie.Need-same-length
-same-length c = search needs
-
 returns : tie.Need-returns
 returns c = let g = c .before .before .before .before .before .before .before .before .before .args in
     stored-joins (g .out .now) (g .at) (blank ++ registerText (g .a)) blank (registerText (g .b)) _ _ _ _ (c .before .before .before .before .before .before .store-register .ensures) (c .before .before .store-register2 .ensures)
 
 pub store-two-spec : {M : Type 1} → statement M
-store-two-spec =
-    tie.close (tie.spec store-register-requires store-register-requires-2 same-length returns)
+store-two-spec = tie.close (tie.spec store-register-requires store-register-requires-2 (λ c. search needs) returns)

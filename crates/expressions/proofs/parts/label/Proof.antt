@@ -6,23 +6,13 @@ use borrow.Author.Needs.{needs}
 use Rattle.expressions.proofs.parts.label.Statement.{statement}
 use Rattle.expressions.proofs.parts.label.Tie as tie
 
-locate-requires : tie.Need-locate-requires
-locate-requires c κs = search needs
-
-number-requires : tie.Need-number-requires
-number-requires c κs = search needs
-
 returns : tie.Need-returns
 returns c = let g = c .before .before .before .before .args in
     named-there (located (g .text .now) (g .table .now) (g .complete) (nameAt (g .text .now) (g .place))) _ (c .before .before .locate .ensures) (c .before .if1 .taken) _ (c .number .ensures)
-
-unknown-requires : tie.Need-unknown-requires
-unknown-requires c κs = search needs
 
 returns-2 : tie.Need-returns-2
 returns-2 c = let g = c .before .before .before .before .args in
     named-none (located (g .text .now) (g .table .now) (g .complete) (nameAt (g .text .now) (g .place))) _ (c .before .before .locate .ensures) (c .before .if1 .left) _ (c .unknown .ensures)
 
 pub label-spec : {M : Type 1} → statement M
-label-spec =
-    tie.close (tie.spec locate-requires number-requires returns unknown-requires returns-2)
+label-spec = tie.close (tie.spec _ (λ c κs. search needs) returns _ returns-2)

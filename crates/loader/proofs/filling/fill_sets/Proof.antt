@@ -12,23 +12,9 @@ Inv-loop sets₀ n one i₀ sets i = Filling one n sets₀ sets i
 abbrev μ-loop : tie.MeasureT-loop
 μ-loop sets₀ n one i₀ sets i = n - i
 
-loop-again : tie.Need-loop-again Inv-loop μ-loop
-loop-again c = fills-one _ _ _ _ _ (c .before .loop .inv) (c .loop-test .taken) (c .before .before .pre)
-
-returns : tie.Need-returns Inv-loop μ-loop
-returns c = filled _ _ _ _ _ (c .before .loop .inv) (c .loop-test .left)
-
 pub fill-sets-spec : {M : Type 1} → statement M
 fill-sets-spec =
     tie.close
-    (tie.spec
-    Inv-loop
-    μ-loop
-    (λ c. (omega arith, refl, refl))
-    (λ c. omega arith)
-    (λ c. omega arith)
-    (λ c. omega arith)
-    (λ c. omega arith)
-    loop-again
-    (λ c. omega arith)
-    returns)
+    (tie.spec Inv-loop μ-loop (λ c. (omega arith, refl, refl)) (λ c. omega arith) (λ c. omega arith) (λ c. omega arith)
+    (λ c. omega arith) (λ c. fills-one _ _ _ _ _ (c .before .loop .inv) (c .loop-test .taken) (c .before .before .pre))
+    (λ c. omega arith) (λ c. filled _ _ _ _ _ (c .before .loop .inv) (c .loop-test .left)))

@@ -26,29 +26,8 @@ abbrev μ-loop : tie.MeasureT-loop
 μ-loop words₀ owners₀ jumpers₀ writers₀ readers₀ budget count₀ n strict pc₀ prev next₀ jumped arrival₀ regs₀ services₀ words owners jumpers writers readers count pc next arrival regs services =
     budget - count
 
-returns : tie.Need-returns Inv-loop2 μ-loop2 Inv-loop μ-loop
-returns c = nothing _ _ (c .if1 .taken)
-
-is-formed-requires : tie.Need-is-formed-requires Inv-loop2 μ-loop2 Inv-loop μ-loop
-is-formed-requires c κs = search needs
-
-returns-2 : tie.Need-returns-2 Inv-loop2 μ-loop2 Inv-loop μ-loop
-returns-2 c = unformed _ _ _ (c .before .is-formed .ensures) (c .before .before .if1 .left) (c .if2 .taken)
-
-unasked-requires : tie.Need-unasked-requires Inv-loop2 μ-loop2 Inv-loop μ-loop
-unasked-requires c κs = search needs
-
 loop-holds : tie.Need-loop-holds Inv-loop2 μ-loop2 Inv-loop μ-loop
 loop-holds c = (arrived _ _ _ _ _ _ _ _ _ _ _ _ _ _ (omega arith) (c .before .before .unasked .ensures) _ _ _ (starts _ _ _ (c .before .before .before .before .is-formed .ensures) (c .before .before .before .if2 .left)), omega arith, unasked-home _ _ _ _ _ (c .before .before .unasked .ensures))
-
-loop2-holds : tie.Need-loop2-holds Inv-loop2 μ-loop2 Inv-loop μ-loop
-loop2-holds c = (λ s₀ g. g, c .before .loop .inv .2, omega arith)
-
-decide-requires : tie.Need-decide-requires Inv-loop2 μ-loop2 Inv-loop μ-loop
-decide-requires c κs = search needs
-
-ended-requires : tie.Need-ended-requires Inv-loop2 μ-loop2 Inv-loop μ-loop
-ended-requires c κs = search needs
 
 same-length : tie.Need-same-length Inv-loop2 μ-loop2 Inv-loop μ-loop
 same-length c = (c .before .before .before .before .before .before .before .before .before .before .before .loop2 .inv .0 _ (c .before .before .before .before .before .before .before .before .before .before .before .before .before .loop .inv .0)) .words
@@ -68,32 +47,8 @@ same-length-5 c = c .before .before .before .before .before .before .before .bef
 returns-3 : tie.Need-returns-3 Inv-loop2 μ-loop2 Inv-loop μ-loop
 returns-3 c = simp (c .ended .ensures) (word-stops _ _ _ _ (c .before .before .before .before .before .before .before .before .before .before .before .loop2 .inv .0 _ (c .before .before .before .before .before .before .before .before .before .before .before .before .before .loop .inv .0)) (c .before .before .before .before .before .before .before .before .before .if3 .left) (c .before .before .before .before .before .before .before .before .before .before .loop2-test .taken) _ refl refl (c .before .before .before .before .before .before .before .before .before .before .before .loop2 .inv .1) _ (c .before .before .decide .ensures) (c .before .if4 .taken))
 
-put-reg-requires : tie.Need-put-reg-requires Inv-loop2 μ-loop2 Inv-loop μ-loop
-put-reg-requires c κs = search needs
-
-put-word-requires : tie.Need-put-word-requires Inv-loop2 μ-loop2 Inv-loop μ-loop
-put-word-requires c κs = search needs
-
-add-count : tie.Need-add-count Inv-loop2 μ-loop2 Inv-loop μ-loop
-add-count c = omega arith
-
-loop2-less : tie.Need-loop2-less Inv-loop2 μ-loop2 Inv-loop μ-loop
-loop2-less c = omega arith
-
 loop2-again : tie.Need-loop2-again Inv-loop2 μ-loop2 Inv-loop μ-loop
 loop2-again c = (λ s₀ g. word-turns s₀ _ _ _ (c .before .before .before .before .before .before .before .before .before .before .before .before .before .before .before .before .loop2 .inv .0 s₀ g) (c .before .before .before .before .before .before .before .before .before .before .before .before .before .before .if3 .left) (c .before .before .before .before .before .before .before .before .before .before .before .before .before .before .before .loop2-test .taken) _ refl refl (c .before .before .before .before .before .before .before .before .before .before .before .before .before .before .before .before .loop2 .inv .1) _ (c .before .before .before .before .before .before .before .decide .ensures) (c .before .before .before .before .before .before .if4 .left) _ _ (c .before .before .before .before .put-reg .ensures) (c .before .before .put-word .ensures), word-home _ _ _ _ (c .before .before .before .before .before .before .before .before .before .before .before .before .before .before .before .before .loop2 .inv .0 _ (c .before .before .before .before .before .before .before .before .before .before .before .before .before .before .before .before .before .before .loop .inv .0)) (c .before .before .before .before .before .before .before .before .before .before .before .before .before .before .if3 .left) (c .before .before .before .before .before .before .before .before .before .before .before .before .before .before .before .loop2-test .taken) _ refl refl (c .before .before .before .before .before .before .before .before .before .before .before .before .before .before .before .before .loop2 .inv .1) _ (c .before .before .before .before .before .before .before .decide .ensures) (c .before .before .before .before .before .before .if4 .left), omega arith)
-
-prev-of-requires : tie.Need-prev-of-requires Inv-loop2 μ-loop2 Inv-loop μ-loop
-prev-of-requires c κs = search needs
-
-jumped-of-requires : tie.Need-jumped-of-requires Inv-loop2 μ-loop2 Inv-loop μ-loop
-jumped-of-requires c κs = search needs
-
-serve-requires : tie.Need-serve-requires Inv-loop2 μ-loop2 Inv-loop μ-loop
-serve-requires c κs = search needs
-
-ended-requires-2 : tie.Need-ended-requires-2 Inv-loop2 μ-loop2 Inv-loop μ-loop
-ended-requires-2 c κs = search needs
 
 same-length-6 : tie.Need-same-length-6 Inv-loop2 μ-loop2 Inv-loop μ-loop
 same-length-6 c = (c .before .before .before .before .before .before .before .before .before .before .before .before .before .before .before .before .before .before .before .before .before .loop2 .inv .0 _ (c .before .before .before .before .before .before .before .before .before .before .before .before .before .before .before .before .before .before .before .before .before .before .before .loop .inv .0)) .words
@@ -113,38 +68,11 @@ same-length-10 c = c .before .before .before .before .before .before .before .be
 returns-4 : tie.Need-returns-4 Inv-loop2 μ-loop2 Inv-loop μ-loop
 returns-4 c = simp (c .ended2 .ensures) (service-stops _ _ _ _ (c .before .before .before .before .before .before .before .before .before .before .before .before .before .before .before .before .before .before .before .before .before .loop2 .inv .0 _ (c .before .before .before .before .before .before .before .before .before .before .before .before .before .before .before .before .before .before .before .before .before .before .before .loop .inv .0)) (c .before .before .before .before .before .before .before .before .before .before .before .before .before .before .before .before .before .before .before .if5 .left) (⊎-elim (λ w. w .left) (λ w. absurd (omega (arith, w .1 .taken, c .before .before .before .before .before .before .before .before .before .before .before .before .before .before .before .before .before .before .before .if5 .left))) (c .before .before .before .before .before .before .before .before .before .before .before .before .before .before .before .before .before .before .before .before .loop2-test .came)) _ (called _ _ _ _ _ _ _ _ _ _ _ _ _ _ (c .before .before .before .before .before .before .before .before .before .before .before .before .before .before .before .before .before .prev-of .ensures) (c .before .before .before .before .before .before .before .before .before .before .before .before .before .before .before .before .jumped-of .ensures) _ (c .before .before .before .before .before .before .before .before .before .before .serve .ensures)) (c .before .if6 .taken))
 
-array-read-pc : tie.Need-array-read-pc Inv-loop2 μ-loop2 Inv-loop μ-loop
-array-read-pc c = search needs
-
-unasked-requires-2 : tie.Need-unasked-requires-2 Inv-loop2 μ-loop2 Inv-loop μ-loop
-unasked-requires-2 c κs = search needs
-
-add-count-2 : tie.Need-add-count-2 Inv-loop2 μ-loop2 Inv-loop μ-loop
-add-count-2 c = omega arith
-
-loop-less : tie.Need-loop-less Inv-loop2 μ-loop2 Inv-loop μ-loop
-loop-less c = omega arith
-
 loop-again : tie.Need-loop-again Inv-loop2 μ-loop2 Inv-loop μ-loop
 loop-again c = (arrived _ _ _ _ _ _ _ _ _ _ _ _ _ _ (omega arith) (c .before .unasked2 .ensures) _ _ _ (service-turns _ _ _ _ (c .before .before .before .before .before .before .before .before .before .before .before .before .before .before .before .before .before .before .before .before .before .before .loop2 .inv .0 _ (c .before .before .before .before .before .before .before .before .before .before .before .before .before .before .before .before .before .before .before .before .before .before .before .before .loop .inv .0)) (c .before .before .before .before .before .before .before .before .before .before .before .before .before .before .before .before .before .before .before .before .if5 .left) (⊎-elim (λ w. w .left) (λ w. absurd (omega (arith, w .1 .taken, c .before .before .before .before .before .before .before .before .before .before .before .before .before .before .before .before .before .before .before .before .if5 .left))) (c .before .before .before .before .before .before .before .before .before .before .before .before .before .before .before .before .before .before .before .before .before .loop2-test .came)) _ (called _ _ _ _ _ _ _ _ _ _ _ _ _ _ (c .before .before .before .before .before .before .before .before .before .before .before .before .before .before .before .before .before .before .prev-of .ensures) (c .before .before .before .before .before .before .before .before .before .before .before .before .before .before .before .before .before .jumped-of .ensures) _ (c .before .before .before .before .before .before .before .before .before .before .before .serve .ensures)) (c .before .before .if6 .left)), c .before .before .before .before .before .before .before .before .before .before .before .before .before .before .before .before .before .before .before .before .before .before .before .before .loop .inv .1, unasked-home _ _ _ _ _ (c .before .unasked2 .ensures))
 
-ended-requires-3 : tie.Need-ended-requires-3 Inv-loop2 μ-loop2 Inv-loop μ-loop
-ended-requires-3 c κs = search needs
-
 same-length-11 : tie.Need-same-length-11 Inv-loop2 μ-loop2 Inv-loop μ-loop
 same-length-11 c = ⊎-elim (λ w. left _ _ _ _ _ _ _ _ _ _ _ _ _ _ _ _ _ _ _ _ (w .1) (w .2) (w .3) (w .4) (w .5) (c .before .before .loop .inv .0) (w .0 .left) .0 .words) (λ w. left _ _ _ _ _ _ _ _ _ _ _ _ _ _ _ _ _ _ _ _ (w .4) (w .5) (w .6) (w .7) (w .8) (w .1 .inv .0 _ (c .before .before .loop .inv .0)) (w .3 .taken) .0 .words) (c .before .loop-test .came)
-
-same-length-12 : tie.Need-same-length-12 Inv-loop2 μ-loop2 Inv-loop μ-loop
-same-length-12 c = c .before .before .loop .inv .0 .owners
-
-same-length-13 : tie.Need-same-length-13 Inv-loop2 μ-loop2 Inv-loop μ-loop
-same-length-13 c = c .before .before .loop .inv .0 .jumpers
-
-same-length-14 : tie.Need-same-length-14 Inv-loop2 μ-loop2 Inv-loop μ-loop
-same-length-14 c = c .before .before .loop .inv .0 .writers
-
-same-length-15 : tie.Need-same-length-15 Inv-loop2 μ-loop2 Inv-loop μ-loop
-same-length-15 c = c .before .before .loop .inv .0 .readers
 
 returns-5 : tie.Need-returns-5 Inv-loop2 μ-loop2 Inv-loop μ-loop
 returns-5 c = let z = ⊎-elim (λ w. left _ _ _ _ _ _ _ _ _ _ _ _ _ _ _ _ _ _ _ _ (w .1) (w .2) (w .3) (w .4) (w .5) (c .before .before .loop .inv .0) (w .0 .left)) (λ w. left _ _ _ _ _ _ _ _ _ _ _ _ _ _ _ _ _ _ _ _ (w .4) (w .5) (w .6) (w .7) (w .8) (w .1 .inv .0 _ (c .before .before .loop .inv .0)) (w .3 .taken)) (c .before .loop-test .came) in simp (c .ended3 .ensures) (all-used _ _ _ _ (z .0) (z .1))
@@ -152,49 +80,10 @@ returns-5 c = let z = ⊎-elim (λ w. left _ _ _ _ _ _ _ _ _ _ _ _ _ _ _ _ _ _ _
 pub run-spec : {M : Type 1} → statement M
 run-spec =
     tie.close
-    (tie.spec
-    Inv-loop2
-    μ-loop2
-    Inv-loop
-    μ-loop
-    returns
-    is-formed-requires
-    returns-2
-    unasked-requires
-    loop-holds
-    loop2-holds
-    decide-requires
-    ended-requires
-    same-length
-    same-length-2
-    same-length-3
-    same-length-4
-    same-length-5
-    returns-3
-    put-reg-requires
-    put-word-requires
-    add-count
-    loop2-less
-    loop2-again
-    prev-of-requires
-    jumped-of-requires
-    serve-requires
-    ended-requires-2
-    same-length-6
-    same-length-7
-    same-length-8
-    same-length-9
-    same-length-10
-    returns-4
-    array-read-pc
-    unasked-requires-2
-    add-count-2
-    loop-less
-    loop-again
-    ended-requires-3
-    same-length-11
-    same-length-12
-    same-length-13
-    same-length-14
-    same-length-15
-    returns-5)
+    (tie.spec Inv-loop2 μ-loop2 Inv-loop μ-loop (λ c. nothing _ _ (c .if1 .taken)) _
+    (λ c. unformed _ _ _ (c .before .is-formed .ensures) (c .before .before .if1 .left) (c .if2 .taken)) _ loop-holds
+    (λ c. (λ s₀ g. g, c .before .loop .inv .2, omega arith)) _ _ same-length same-length-2 same-length-3 same-length-4
+    same-length-5 returns-3 _ _ (λ c. omega arith) (λ c. omega arith) loop2-again _ _ _ _ same-length-6 same-length-7
+    same-length-8 same-length-9 same-length-10 returns-4 (λ c. search needs) _ (λ c. omega arith) (λ c. omega arith) loop-again _
+    same-length-11 (λ c. c .before .before .loop .inv .0 .owners) (λ c. c .before .before .loop .inv .0 .jumpers)
+    (λ c. c .before .before .loop .inv .0 .writers) (λ c. c .before .before .loop .inv .0 .readers) returns-5)

@@ -1,31 +1,18 @@
 -- A word's set, a service's set, or the empty one.
 use mathlib.Core.Path.{sym, _∙_}
-use borrow.Author.Needs.{needs}
 use borrow.Author.Tests.{le-ltb, lt-ltb, not-true, not-false}
 use Rattle.rules.specs.State.{jumpersAt, inMemory}
 use Rattle.common.specs.Laws.ServiceLaws.{service-range}
 use Rattle.reach.proofs.walk.numbers_at.Statement.{statement}
 use Rattle.reach.proofs.walk.numbers_at.Tie as tie
 
-set-at-requires : tie.Need-set-at-requires
-set-at-requires c κs = search needs
-
 returns : tie.Need-returns
 unfolding jumpersAt inMemory
 returns c = simp (c .set-at .ensures, lt-ltb _ _ (c .before .if1 .taken))
 
-is-service-requires : tie.Need-is-service-requires
-is-service-requires c κs = search needs
-
 returns-2 : tie.Need-returns-2
 unfolding jumpersAt inMemory
 returns-2 c = simp (le-ltb _ _ (c .before .before .if1 .left), sym (c .before .is-service .ensures) ∙ not-true _ (c .if2 .taken))
-
-sub-set-at : tie.Need-sub-set-at
-sub-set-at c = service-range _ _ (sym (c .before .is-service .ensures) ∙ not-false _ (c .if2 .left)) .0
-
-set-at-requires-2 : tie.Need-set-at-requires-2
-set-at-requires-2 c κs = search needs
 
 returns-3 : tie.Need-returns-3
 unfolding jumpersAt inMemory
@@ -34,11 +21,5 @@ returns-3 c = simp (c .set-at2 .ensures, le-ltb _ _ (c .before .before .before .
 pub numbers-at-spec : {M : Type 1} → statement M
 numbers-at-spec =
     tie.close
-    (tie.spec
-    set-at-requires
-    returns
-    is-service-requires
-    returns-2
-    sub-set-at
-    set-at-requires-2
-    returns-3)
+    (tie.spec _ returns _ returns-2
+    (λ c. service-range _ _ (sym (c .before .is-service .ensures) ∙ not-false _ (c .if2 .left)) .0) _ returns-3)

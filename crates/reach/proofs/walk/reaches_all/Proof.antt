@@ -3,7 +3,6 @@ use mathlib.Core.Logic.{⊎-elim}
 use mathlib.Core.Path.{_≡_, refl, sym, _∙_}
 use Prim.Native.Nat.{_-_}
 use native.Mathlib.Omega.{arith}
-use borrow.Author.Needs.{needs}
 use borrow.Author.Tests.{not-true, not-false}
 use Rattle.common.specs.AddressSets.{allFrom}
 use Rattle.reach.specs.Called.{asked, reaches}
@@ -24,43 +23,10 @@ Inv-loop2 strict n caller owners sets services past end x₀ x = allFrom (reache
 abbrev μ-loop2 : tie.MeasureT-loop2
 μ-loop2 strict n caller owners sets services past end x₀ x = past - x
 
-cast-past : tie.Need-cast-past Inv-loop μ-loop Inv-loop2 μ-loop2
-cast-past c = omega arith
-
-clipped-requires : tie.Need-clipped-requires Inv-loop μ-loop Inv-loop2 μ-loop2
-clipped-requires c κs = search needs
-
-cast-x : tie.Need-cast-x Inv-loop μ-loop Inv-loop2 μ-loop2
-cast-x c = omega arith
-
 -- ---- the words
-
-loop-holds : tie.Need-loop-holds Inv-loop μ-loop Inv-loop2 μ-loop2
-loop-holds c = refl
-
-mul-if1 : tie.Need-mul-if1 Inv-loop μ-loop Inv-loop2 μ-loop2
-mul-if1 c = omega arith
-
-shared-slice-read-if1 : tie.Need-shared-slice-read-if1 Inv-loop μ-loop Inv-loop2 μ-loop2
-shared-slice-read-if1 c = omega arith
-
-cast-set-at : tie.Need-cast-set-at Inv-loop μ-loop Inv-loop2 μ-loop2
-cast-set-at c = omega arith
-
-set-at-requires : tie.Need-set-at-requires Inv-loop μ-loop Inv-loop2 μ-loop2
-set-at-requires c κs = search needs
-
-contains-requires : tie.Need-contains-requires Inv-loop μ-loop Inv-loop2 μ-loop2
-contains-requires c κs = search needs
 
 returns : tie.Need-returns Inv-loop μ-loop Inv-loop2 μ-loop2
 returns c = sym (c .before .before .before .before .before .before .loop .inv ∙ all-not _ _ _ (omega arith) (word-by-set _ _ _ _ _ _ _ (omega arith) (c .before .before .before .if1 .taken) _ (c .before .before .set-at .ensures) _ (c .before .contains .ensures) ∙ not-true _ (c .if2 .taken)))
-
-add-x : tie.Need-add-x Inv-loop μ-loop Inv-loop2 μ-loop2
-add-x c = omega arith
-
-loop-less : tie.Need-loop-less Inv-loop μ-loop Inv-loop2 μ-loop2
-loop-less c = omega arith
 
 loop-again : tie.Need-loop-again Inv-loop μ-loop Inv-loop2 μ-loop2
 loop-again c = c .before .before .before .loop .inv ∙ all-next _ _ _ (omega arith)
@@ -68,23 +34,8 @@ loop-again c = c .before .before .before .loop .inv ∙ all-next _ _ _ (omega ar
 
 -- ---- the rest
 
-loop2-holds : tie.Need-loop2-holds Inv-loop μ-loop Inv-loop2 μ-loop2
-loop2-holds c = refl
-
-cast-reaches : tie.Need-cast-reaches Inv-loop μ-loop Inv-loop2 μ-loop2
-cast-reaches c = omega arith
-
-reaches-requires : tie.Need-reaches-requires Inv-loop μ-loop Inv-loop2 μ-loop2
-reaches-requires c κs = search needs
-
 returns-2 : tie.Need-returns-2 Inv-loop μ-loop Inv-loop2 μ-loop2
 returns-2 c = sym (c .before .before .before .before .before .loop .inv ∙ c .before .before .before .loop2 .inv ∙ all-not _ _ _ (c .before .before .loop2-test .taken) (sym (c .before .reaches .ensures) ∙ not-true _ (c .if3 .taken)))
-
-add-x-2 : tie.Need-add-x-2 Inv-loop μ-loop Inv-loop2 μ-loop2
-add-x-2 c = omega arith
-
-loop2-less : tie.Need-loop2-less Inv-loop μ-loop Inv-loop2 μ-loop2
-loop2-less c = omega arith
 
 loop2-again : tie.Need-loop2-again Inv-loop μ-loop Inv-loop2 μ-loop2
 loop2-again c = c .before .before .before .loop2 .inv ∙ all-next _ _ _ (c .before .before .loop2-test .taken) (sym (c .before .reaches .ensures) ∙ not-false _ (c .if3 .left))
@@ -95,29 +46,6 @@ returns-3 c = sym (c .before .before .before .loop .inv ∙ c .before .loop2 .in
 pub reaches-all-spec : {M : Type 1} → statement M
 reaches-all-spec =
     tie.close
-    (tie.spec
-    Inv-loop
-    μ-loop
-    Inv-loop2
-    μ-loop2
-    cast-past
-    clipped-requires
-    cast-x
-    loop-holds
-    mul-if1
-    shared-slice-read-if1
-    cast-set-at
-    set-at-requires
-    contains-requires
-    returns
-    add-x
-    loop-less
-    loop-again
-    loop2-holds
-    cast-reaches
-    reaches-requires
-    returns-2
-    add-x-2
-    loop2-less
-    loop2-again
-    returns-3)
+    (tie.spec Inv-loop μ-loop Inv-loop2 μ-loop2 (λ c. omega arith) _ (λ c. omega arith) (λ c. refl) (λ c. omega arith)
+    (λ c. omega arith) (λ c. omega arith) _ _ returns (λ c. omega arith) (λ c. omega arith) loop-again (λ c. refl)
+    (λ c. omega arith) _ returns-2 (λ c. omega arith) (λ c. omega arith) loop2-again returns-3)

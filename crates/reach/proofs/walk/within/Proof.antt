@@ -3,7 +3,6 @@ use mathlib.Core.Bool.{true}
 use mathlib.Core.Path.{_≡_, sym, _∙_}
 use Prim.Native.Nat.{_+_, _-_, _≤_}
 use native.Mathlib.Omega.{arith}
-use borrow.Author.Needs.{needs}
 use borrow.Author.Tests.{not-true, not-false}
 use Rattle.common.specs.AddressSets.{pairsAt, within}
 use Rattle.reach.specs.Called.{asked, reaches}
@@ -18,29 +17,14 @@ Inv-loop words q strict n caller owners sets services k j₀ j = (j ≤ k) × (w
 abbrev μ-loop : tie.MeasureT-loop
 μ-loop words q strict n caller owners sets services k j₀ j = k - j
 
-word-at-requires : tie.Need-word-at-requires Inv-loop μ-loop
-word-at-requires c κs = search needs
-
-loop-holds : tie.Need-loop-holds Inv-loop μ-loop
-loop-holds c = (omega arith, every-none (every-within _) _ _)
-
-pair-at-requires : tie.Need-pair-at-requires Inv-loop μ-loop
-pair-at-requires c κs = search needs
-
-reaches-all-requires : tie.Need-reaches-all-requires Inv-loop μ-loop
-reaches-all-requires c κs = search needs
-
 returns : tie.Need-returns Inv-loop μ-loop
 returns c = sym (every-not (every-within _) _ _ _ _ (c .before .before .pair-at .ensures) (omega arith) (sym (c .before .reaches-all .ensures) ∙ not-true _ (c .if1 .taken)))
 
-add-j : tie.Need-add-j Inv-loop μ-loop
-add-j c = omega arith
-
-loop-less : tie.Need-loop-less Inv-loop μ-loop
-loop-less c = omega arith
-
 loop-again : tie.Need-loop-again Inv-loop μ-loop
 loop-again c = (omega arith, every-more (every-within _) _ _ _ _ (c .before .before .pair-at .ensures) (sym (c .before .reaches-all .ensures) ∙ not-false _ (c .if1 .left)) (c .before .before .before .before .loop .inv .1))
+
+loop-holds : tie.Need-loop-holds Inv-loop μ-loop
+loop-holds c = (omega arith, every-none (every-within _) _ _)
 
 returns-2 : tie.Need-returns-2 Inv-loop μ-loop
 returns-2 c = sym (every-all (every-within _) _ _ _ (omega arith) (c .before .loop .inv .1))
@@ -48,15 +32,4 @@ returns-2 c = sym (every-all (every-within _) _ _ _ (omega arith) (c .before .lo
 pub within-spec : {M : Type 1} → statement M
 within-spec =
     tie.close
-    (tie.spec
-    Inv-loop
-    μ-loop
-    word-at-requires
-    loop-holds
-    pair-at-requires
-    reaches-all-requires
-    returns
-    add-j
-    loop-less
-    loop-again
-    returns-2)
+    (tie.spec Inv-loop μ-loop _ loop-holds _ _ returns (λ c. omega arith) (λ c. omega arith) loop-again returns-2)

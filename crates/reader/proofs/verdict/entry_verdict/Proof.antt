@@ -4,35 +4,14 @@ use borrow.Author.Needs.{needs}
 use Rattle.reader.proofs.verdict.entry_verdict.Statement.{statement}
 use Rattle.reader.proofs.verdict.entry_verdict.Tie as tie
 
-add-if1 : tie.Need-add-if1
-add-if1 c = search needs
-
-returns : tie.Need-returns
-returns c = entries-cut _ _ (c .before .before .pre .0) (c .if1 .taken)
-
-field-requires : tie.Need-field-requires
-field-requires c κs = search needs
-
 returns-2 : tie.Need-returns-2
 returns-2 c = bad-entries _ _ (c .before .before .before .before .pre .0) (c .before .before .if1 .left) _ (c .before .field .ensures) (c .if2 .taken)
-
-add-if3 : tie.Need-add-if3
-add-if3 c = search needs
 
 returns-3 : tie.Need-returns-3
 returns-3 c = entry-cut _ _ (c .before .before .before .before .before .pre .0) (c .before .before .before .if1 .left) _ (c .before .before .field .ensures) (c .before .if2 .left) (c .if3 .taken)
 
-add-field : tie.Need-add-field
-add-field c = search needs
-
-field-requires-2 : tie.Need-field-requires-2
-field-requires-2 c κs = search needs
-
 returns-4 : tie.Need-returns-4
 returns-4 c = bad-entry _ _ (c .before .before .before .before .before .before .before .pre .0) (c .before .before .before .before .before .if1 .left) _ (c .before .before .before .before .field .ensures) (c .before .before .before .if2 .left) (c .before .before .if3 .left) _ (c .before .field2 .ensures) _ (c .before .before .before .before .before .before .before .pre .2) (c .if4 .taken)
-
-add-if5 : tie.Need-add-if5
-add-if5 c = search needs
 
 returns-5 : tie.Need-returns-5
 returns-5 c = bytes-left _ _ (c .before .before .before .before .before .before .before .before .pre .0) (c .before .before .before .before .before .before .if1 .left) _ (c .before .before .before .before .before .field .ensures) (c .before .before .before .before .if2 .left) (c .before .before .before .if3 .left) _ (c .before .before .field2 .ensures) _ (c .before .before .before .before .before .before .before .before .pre .2) (c .before .if4 .left) (c .if5 .taken)
@@ -43,16 +22,6 @@ returns-6 c = no-bytes-left _ _ (c .before .before .before .before .before .befo
 pub entry-verdict-spec : {M : Type 1} → statement M
 entry-verdict-spec =
     tie.close
-    (tie.spec
-    add-if1
-    returns
-    field-requires
-    returns-2
-    add-if3
-    returns-3
-    add-field
-    field-requires-2
-    returns-4
-    add-if5
-    returns-5
+    (tie.spec (λ c. search needs) (λ c. entries-cut _ _ (c .before .before .pre .0) (c .if1 .taken)) (λ c κs. search needs)
+    returns-2 (λ c. search needs) returns-3 (λ c. search needs) (λ c κs. search needs) returns-4 (λ c. search needs) returns-5
     returns-6)

@@ -4,29 +4,8 @@ use borrow.Author.Needs.{needs}
 use Rattle.reader.proofs.verdict.registers_verdict.Statement.{statement}
 use Rattle.reader.proofs.verdict.registers_verdict.Tie as tie
 
-add-if1 : tie.Need-add-if1
-add-if1 c = search needs
-
-returns : tie.Need-returns
-returns c = count-cut _ _ (c .before .before .pre .0) (c .if1 .taken)
-
-field-requires : tie.Need-field-requires
-field-requires c κs = search needs
-
 returns-2 : tie.Need-returns-2
 returns-2 c = many-registers _ _ (c .before .before .before .before .pre .0) (c .before .before .if1 .left) _ (c .before .field .ensures) (c .if2 .taken)
-
-add-end : tie.Need-add-end
-add-end c = search needs
-
-cast-end : tie.Need-cast-end
-cast-end c = search needs
-
-mul-end : tie.Need-mul-end
-mul-end c = search needs
-
-add-end-2 : tie.Need-add-end-2
-add-end-2 c = search needs
 
 returns-3 : tie.Need-returns-3
 returns-3 c = registers-cut _ _ (c .before .before .before .before .before .pre .0) (c .before .before .before .if1 .left) _ (c .before .before .field .ensures) (c .before .if2 .left) (c .if3 .taken)
@@ -37,26 +16,12 @@ last-verdict-requires c κs = (at-entry _ _ (c .before .before .before .before .
 entry-verdict-requires : tie.Need-entry-verdict-requires
 entry-verdict-requires c κs = (at-entry _ _ (c .before .before .before .before .before .before .pre .0) (c .before .before .before .before .if1 .left) _ (c .before .before .before .field .ensures), c .before .if3 .left, c .before .before .before .before .before .before .pre .2)
 
-first-of-requires : tie.Need-first-of-requires
-first-of-requires c κs = search needs
-
 returns-4 : tie.Need-returns-4
 returns-4 c = registers-pass _ _ (c .before .before .before .before .before .before .before .before .pre .0) (c .before .before .before .before .before .before .if1 .left) _ (c .before .before .before .before .before .field .ensures) (c .before .before .before .before .if2 .left) (c .before .before .before .if3 .left) _ _ _ (c .before .before .last-verdict .ensures) (c .before .entry-verdict .ensures) (c .first-of .ensures)
 
 pub registers-verdict-spec : {M : Type 1} → statement M
 registers-verdict-spec =
     tie.close
-    (tie.spec
-    add-if1
-    returns
-    field-requires
-    returns-2
-    add-end
-    cast-end
-    mul-end
-    add-end-2
-    returns-3
-    last-verdict-requires
-    entry-verdict-requires
-    first-of-requires
-    returns-4)
+    (tie.spec (λ c. search needs) (λ c. count-cut _ _ (c .before .before .pre .0) (c .if1 .taken)) (λ c κs. search needs)
+    returns-2 (λ c. search needs) (λ c. search needs) (λ c. search needs) (λ c. search needs) returns-3 last-verdict-requires
+    entry-verdict-requires _ returns-4)

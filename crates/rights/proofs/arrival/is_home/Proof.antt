@@ -4,8 +4,5 @@ use Rattle.rights.specs.Arrivals.{is-home}
 use Rattle.rights.proofs.arrival.is_home.Statement.{statement}
 use Rattle.rights.proofs.arrival.is_home.Tie as tie
 
-returns : tie.Need-returns
-returns c = is-home _ _ (omega arith)
-
 pub is-home-spec : {M : Type 1} → statement M
-is-home-spec = tie.close (tie.spec returns)
+is-home-spec = tie.close (tie.spec (λ c. is-home _ _ (omega arith)))

@@ -5,12 +5,9 @@ use borrow.Author.Needs.{needs}
 use Rattle.rights.proofs.arrival.prev_of.Statement.{statement}
 use Rattle.rights.proofs.arrival.prev_of.Tie as tie
 
-cast-result : tie.Need-cast-result
-cast-result c = search needs
-
 returns : tie.Need-returns
 unfolding prevOf
 returns c = refl
 
 pub prev-of-spec : {M : Type 1} → statement M
-prev-of-spec = tie.close (tie.spec cast-result returns)
+prev-of-spec = tie.close (tie.spec (λ c. search needs) returns)

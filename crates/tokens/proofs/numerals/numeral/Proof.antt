@@ -14,37 +14,13 @@ Inv-loop text place from base p₀ value₀ p value = (value ≤ most) × (numer
 abbrev μ-loop : tie.MeasureT-loop
 μ-loop text place from base p₀ value₀ p value = length text - p
 
-loop-holds : tie.Need-loop-holds Inv-loop μ-loop
-loop-holds c = (omega arith, refl)
-
-shared-slice-read-folded : tie.Need-shared-slice-read-folded Inv-loop μ-loop
-shared-slice-read-folded c = omega arith
-
-folded-requires : tie.Need-folded-requires Inv-loop μ-loop
-folded-requires c κs = tt
-
 returns : tie.Need-returns Inv-loop μ-loop
 returns c = let x = c .before .before .before .before .loop in
     numeral-ends (c .before .before .before .before .before .before .args .text .now) _ (x .p) _ (x .value) _ (c .before .folded .ensures) (c .if1 .taken) (x .inv .0) ∙ sym (x .inv .1)
 
-digit-requires : tie.Need-digit-requires Inv-loop μ-loop
-digit-requires c κs = tt
-
-spelled-requires : tie.Need-spelled-requires Inv-loop μ-loop
-spelled-requires c κs = tt
-
 returns-2 : tie.Need-returns-2 Inv-loop μ-loop
 returns-2 c = let x = c .before .before .before .before .before .before .before .loop in
     numeral-stray (c .before .before .before .before .before .before .before .before .before .args .text .now) _ (x .p) _ (x .value) _ (c .before .before .before .before .folded .ensures) (c .before .before .before .if1 .left) _ (c .before .before .digit .ensures) (c .before .if2 .taken) _ (c .spelled .ensures) ∙ sym (x .inv .1)
-
-joined-requires : tie.Need-joined-requires Inv-loop μ-loop
-joined-requires c κs = (omega arith, (omega arith, omega arith))
-
-add-p : tie.Need-add-p Inv-loop μ-loop
-add-p c = omega arith
-
-loop-less : tie.Need-loop-less Inv-loop μ-loop
-loop-less c = omega arith
 
 loop-again : tie.Need-loop-again Inv-loop μ-loop
 loop-again c = let x = c .before .before .before .before .before .before .before .loop in
@@ -57,18 +33,5 @@ returns-3 c = let x = c .before .loop in
 pub numeral-spec : {M : Type 1} → statement M
 numeral-spec =
     tie.close
-    (tie.spec
-    Inv-loop
-    μ-loop
-    loop-holds
-    shared-slice-read-folded
-    folded-requires
-    returns
-    digit-requires
-    spelled-requires
-    returns-2
-    joined-requires
-    add-p
-    loop-less
-    loop-again
-    returns-3)
+    (tie.spec Inv-loop μ-loop (λ c. (omega arith, refl)) (λ c. omega arith) _ returns _ _ returns-2
+    (λ c κs. (omega arith, (omega arith, omega arith))) (λ c. omega arith) (λ c. omega arith) loop-again returns-3)

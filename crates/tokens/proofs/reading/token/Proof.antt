@@ -5,44 +5,17 @@ use Rattle.tokens.specs.Reading.{none-past, none-there, sign-there, numb
 use Rattle.tokens.proofs.reading.token.Statement.{statement}
 use Rattle.tokens.proofs.reading.token.Tie as tie
 
-skip-requires : tie.Need-skip-requires
-skip-requires c κs = search needs
-
-ended-requires : tie.Need-ended-requires
-ended-requires c κs = search needs
-
 returns : tie.Need-returns
 returns c = c .ended .ensures ∙ none-past _ _ _ (c .before .before .skip .ensures) (c .before .if1 .taken)
-
-shared-slice-read-b : tie.Need-shared-slice-read-b
-shared-slice-read-b c = search needs
-
-folded-requires : tie.Need-folded-requires
-folded-requires c κs = search needs
-
-mark-requires : tie.Need-mark-requires
-mark-requires c κs = search needs
-
-ended-requires-2 : tie.Need-ended-requires-2
-ended-requires-2 c κs = search needs
 
 returns-2 : tie.Need-returns-2
 returns-2 c = c .ended2 .ensures ∙ none-there _ _ _ (c .before .before .before .before .before .before .before .skip .ensures) (c .before .before .before .before .before .before .if1 .left) _ refl _ (c .before .before .before .before .folded .ensures) _ (c .before .before .mark .ensures) (c .before .if3 .taken)
 
-add-t11 : tie.Need-add-t11
-add-t11 c = search needs
-
 returns-3 : tie.Need-returns-3
 returns-3 c = sign-there _ _ _ (c .before .before .before .before .before .before .skip .ensures) (c .before .before .before .before .before .if1 .left) _ refl _ (c .before .before .before .folded .ensures) _ (c .before .mark .ensures) (c .before .before .if2 .taken) (c .if3 .left)
 
-number-requires : tie.Need-number-requires
-number-requires c κs = search needs
-
 returns-4 : tie.Need-returns-4
 returns-4 c = number-there _ _ _ (c .before .before .before .before .before .before .skip .ensures) (c .before .before .before .before .before .if1 .left) _ refl _ (c .before .before .before .folded .ensures) (c .before .before .if2 .left) (c .before .if4 .taken) _ (c .number .ensures)
-
-word-requires : tie.Need-word-requires
-word-requires c κs = search needs
 
 returns-5 : tie.Need-returns-5
 returns-5 c = word-there _ _ _ (c .before .before .before .before .before .before .skip .ensures) (c .before .before .before .before .before .if1 .left) _ refl _ (c .before .before .before .folded .ensures) (c .before .before .if2 .left) (c .before .if4 .left) _ (c .word .ensures)
@@ -50,18 +23,5 @@ returns-5 c = word-there _ _ _ (c .before .before .before .before .before .befor
 pub token-spec : {M : Type 1} → statement M
 token-spec =
     tie.close
-    (tie.spec
-    skip-requires
-    ended-requires
-    returns
-    shared-slice-read-b
-    folded-requires
-    mark-requires
-    ended-requires-2
-    returns-2
-    add-t11
-    returns-3
-    number-requires
-    returns-4
-    word-requires
+    (tie.spec _ _ returns (λ c. search needs) _ _ _ returns-2 (λ c. search needs) returns-3 (λ c κs. search needs) returns-4 _
     returns-5)

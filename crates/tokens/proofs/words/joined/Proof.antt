@@ -15,11 +15,7 @@ add-m : tie.Need-add-m
 add-m c = let g = c .args in
     let l : g .n * g .base ≤ 1099511627776 * 256 = mul-le-mul (c .pre .0) (c .pre .1 .0) in record { fits = omega arith }
 
-returns : tie.Need-returns
-returns c = sym (held-under _ _ (c .if1 .taken))
-
-returns-2 : tie.Need-returns-2
-returns-2 c = sym (held-over _ _ (c .if1 .left))
-
 pub joined-spec : {M : Type 1} → statement M
-joined-spec = tie.close (tie.spec mul-m add-m returns returns-2)
+joined-spec =
+    tie.close
+    (tie.spec mul-m add-m (λ c. sym (held-under _ _ (c .if1 .taken))) (λ c. sym (held-over _ _ (c .if1 .left))))

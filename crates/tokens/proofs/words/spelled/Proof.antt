@@ -16,30 +16,9 @@ Inv-loop text at p₀ key₀ p key = (key ≤ longest) × (spelledAt text at ≡
 abbrev μ-loop : tie.MeasureT-loop
 μ-loop text at p₀ key₀ p key = length text - p
 
-loop-holds : tie.Need-loop-holds Inv-loop μ-loop
-loop-holds c = (omega arith, refl)
-
-shared-slice-read-folded : tie.Need-shared-slice-read-folded Inv-loop μ-loop
-shared-slice-read-folded c = omega arith
-
-folded-requires : tie.Need-folded-requires Inv-loop μ-loop
-folded-requires c κs = tt
-
 returns : tie.Need-returns Inv-loop μ-loop
 returns c = let x = c .before .before .before .before .loop in
     spelled-ends (c .before .before .before .before .before .before .args .text .now) (x .p) (x .key) _ (c .before .folded .ensures) (c .if1 .taken) (x .inv .0) ∙ sym (x .inv .1)
-
-cast-joined : tie.Need-cast-joined Inv-loop μ-loop
-cast-joined c = search needs
-
-joined-requires : tie.Need-joined-requires Inv-loop μ-loop
-joined-requires c κs = (omega arith, (omega arith, omega arith))
-
-add-p : tie.Need-add-p Inv-loop μ-loop
-add-p c = omega arith
-
-loop-less : tie.Need-loop-less Inv-loop μ-loop
-loop-less c = omega arith
 
 loop-again : tie.Need-loop-again Inv-loop μ-loop
 loop-again c = let x = c .before .before .before .before .before .loop in
@@ -52,16 +31,5 @@ returns-2 c = let x = c .before .loop in
 pub spelled-spec : {M : Type 1} → statement M
 spelled-spec =
     tie.close
-    (tie.spec
-    Inv-loop
-    μ-loop
-    loop-holds
-    shared-slice-read-folded
-    folded-requires
-    returns
-    cast-joined
-    joined-requires
-    add-p
-    loop-less
-    loop-again
-    returns-2)
+    (tie.spec Inv-loop μ-loop (λ c. (omega arith, refl)) (λ c. omega arith) _ returns (λ c. search needs)
+    (λ c κs. (omega arith, (omega arith, omega arith))) (λ c. omega arith) (λ c. omega arith) loop-again returns-2)

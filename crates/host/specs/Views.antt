@@ -1,0 +1,43 @@
+-- What is seen of the host calls' outcomes.
+use mathlib.Core.List.{List, [], _∷_}
+use Prim.Native.Nat.{ℕ}
+use Rattle.common.specs.Words as words
+use Rattle.rules.specs.Step as step
+use Rattle.rules.specs.Run as run
+use Rattle.rules.specs.Images as images
+use Rattle.sources.specs.Meaning as sources
+use Rattle.machine.specs.Views.{stateOf}
+use Rattle.machine.specs.declared.Processor.{Processor}
+use Rattle.report.specs.Wholes as report
+
+-- ---- what the contracts see
+
+abbrev pub loadedBy : Processor → ℕ → List ℕ → List ℕ → List ℕ → List ℕ → List ℕ → images.Loaded
+loadedBy cpu answer words owners jumpers writers readers = record { answer = answer; state = stateOf cpu words owners jumpers writers readers }
+
+abbrev pub steppedBy : Processor → ℕ → List ℕ → List ℕ → List ℕ → List ℕ → List ℕ → step.Stepped
+steppedBy cpu answer words owners jumpers writers readers = record { answer = answer; state = stateOf cpu words owners jumpers writers readers }
+
+abbrev pub ranBy : Processor → ℕ → ℕ → List ℕ → List ℕ → List ℕ → List ℕ → List ℕ → run.Ran
+ranBy cpu answer count words owners jumpers writers readers = record { answer = answer; state = stateOf cpu words owners jumpers writers readers; count = count }
+
+-- all that a decoding hands back or may change
+pub record DecodeOutcome : Type 0 where
+  pub answer : ℕ
+  pub fields : List ℕ
+
+abbrev pub decodedBy : ℕ → List ℕ → DecodeOutcome
+decodedBy answer fields = record { answer = answer; fields = fields }
+
+-- the fields in the order in which the host gets them
+abbrev pub laidOut : words.Decoded → DecodeOutcome
+laidOut d = record { answer = d .answer; fields = d .op ∷ d .a ∷ d .b ∷ d .low ∷ [] }
+
+abbrev pub encodedBy : ℕ → ℕ → words.Encoded
+encodedBy answer word = record { answer = answer; word = word }
+
+abbrev pub writtenBy : ℕ → ℕ → List ℕ → images.Written
+writtenBy answer length out = record { answer = answer; length = length; out = out }
+
+abbrev pub assembledBy : ℕ → ℕ → ℕ → List ℕ → sources.Assembled
+assembledBy answer line length out = record { answer = answer; line = line; length = length; out = out }

@@ -1,2 +1,0 @@
--- ---- the promises of what the mode decides
-pub mod Promises
