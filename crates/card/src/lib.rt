@@ -1,100 +1,54 @@
-// The run program's work: an image is loaded and run, and what came of it printed. Printing has no contract: none can say what is
-// written. Each number that is printed comes from a call whose promise is whole.
+// The run program's work: an image is read and run, and the text of what came of it written. What the system reads and writes no contract
+// can say; the text and how it ended come from a call whose promise is whole.
+ghost use Rattle.printed.specs.Outcome.{outcome, Ends};
+use libc::STDERR_FILENO;
 use libc::STDIN_FILENO;
 use libc::STDOUT_FILENO;
-use machine::Processor;
-use machine::Ran;
 
-// How many steps an image may take.
-const BUDGET: u32 = 100000;
-
-fn text(s: &[u8]) {
-    io::write_all(STDOUT_FILENO, s);
+fn say(sentence: &[u8]) {
+    streams::write_all(STDERR_FILENO, sentence);
 }
 
-fn number(value: u32) {
-    io::print_decimal(STDOUT_FILENO, value as u64);
-}
-
-// A text and a number.
-fn field(name: &[u8], value: u32) {
-    text(name);
-    number(value);
-}
-
-fn one_or_zero(flag: bool) -> u32 {
-    if flag {
-        return 1;
+// Runs an image in a mode and writes the text of what came of it to standard output; answers how it ended.
+fn show(strict: bool, bytes: &[u8]) -> u32
+    ensures { λ r. ⌜ Ends (outcome strict (now (bytes .entry))) r ⌝ }
+{
+    let mut made = [0u8; printer::LONGEST];
+    let p = printer::print(strict, bytes, &mut made);
+    let n = streams::within(p.length, &made);
+    let moved = streams::write_all(STDOUT_FILENO, &made[..n]);
+    if moved.failed {
+        say(b"the text could not be written\n");
+        return printer::NOT_RUN;
     }
-    0
+    p.status
 }
 
-// The first line.
-fn show_run(r: Ran, widest: u32) {
-    let cpu = r.cpu;
-    field(b"answer ", r.answer);
-    field(b" steps ", r.count);
-    field(b" pc ", cpu.pc);
-    field(b" prev ", cpu.prev);
-    field(b" jumped ", one_or_zero(cpu.jumped));
-    field(b" next ", cpu.next);
-    field(b" widest ", widest);
-    text(b"\n");
-}
-
-// A line for each compartment below next: number, addresses owned, addresses in J, addresses in S.
-fn show_compartments(cpu: Processor, owners: &[u32], jumpers: &[u64], writers: &[u64]) {
-    let next = cpu.next;
-    let mut c: u32 = 0;
-    while c < next {
-        number(c);
-        field(b" ", report::owned(cpu, owners, c));
-        field(b" ", report::jumps(cpu, jumpers, c));
-        field(b" ", report::stores(cpu, writers, c));
-        text(b"\n");
-        c += 1;
-    }
-}
-
-// Loads an image into memories of 2,048 places, for a run in a mode, runs it, and prints `refused R`, or what the run left.
+// Runs an image and writes its text, as the run program does.
 pub fn run_image(strict: bool, bytes: &[u8]) {
-    let mut words = [0u32; 2048];
-    let mut owners = [0u32; 2048];
-    let mut jumpers = [0u64; 2048];
-    let mut writers = [0u64; 2048];
-    let mut readers = [0u64; 2048];
-    let l = loader::load(
-        strict,
-        bytes,
-        &mut words,
-        &mut owners,
-        &mut jumpers,
-        &mut writers,
-        &mut readers,
-    );
-    let answer = l.answer;
-    if answer != answers::DONE {
-        field(b"refused ", answer);
-        text(b"\n");
-        return;
-    }
-    let cpu = l.cpu;
-    let r = cpu.run(
-        &mut words,
-        &mut owners,
-        &mut jumpers,
-        &mut writers,
-        &mut readers,
-        BUDGET,
-    );
-    show_run(r, report::widest(r.cpu, &writers));
-    show_compartments(r.cpu, &owners, &jumpers, &writers);
+    show(strict, bytes);
 }
 
-// Runs the image on standard input in a mode: what was read until its end, or until a read failed. No image is longer than 8,272 bytes, and
-// the loader answers of a longer input what it answers of its first 8,273 bytes (crates/images/specs/Prefix.antt).
+// Says the status, as the last line on standard error: a program has no other way to tell it.
+fn tell(status: u32) {
+    let mut line = [0u8; 18];
+    let p = text::put_text(&mut line, 0, b"status ");
+    let q = text::put_decimal(&mut line, p, status);
+    let r = text::put_text(&mut line, q, b"\n");
+    let n = streams::within(r, &line);
+    say(&line[..n]);
+}
+
+// Runs the image on standard input in a mode. No image is longer than 8,272 bytes, and the loader answers of a longer input what it answers
+// of its first 8,273 bytes (crates/images/specs/Prefix.antt).
 pub fn run_input(strict: bool) {
     let mut bytes = [0u8; 8273];
-    let n = io::read_full(STDIN_FILENO, &mut bytes);
-    run_image(strict, &bytes[..n]);
+    let got = streams::read_all(STDIN_FILENO, &mut bytes);
+    if got.failed {
+        say(b"the image could not be read\n");
+        tell(printer::NOT_RUN);
+        return;
+    }
+    let n = got.count;
+    tell(show(strict, &bytes[..n]));
 }

@@ -1,16 +1,21 @@
 // An image cut at every length, and with each byte changed.
 use crate::loading;
 use crate::showing;
-use crate::showing::sum_of_sets;
-use crate::showing::sum_of_words;
+use crate::showing::mixed;
+
+// Whether a sum is that of four places with this mark.
+fn marked(sum: u64, mark: u64) -> bool {
+    sum == mixed(mixed(mixed(mixed(0, mark), mark), mark), mark)
+}
 
 // Whether the sums of five memories of four places are those of their marks.
 fn as_marked(values: [u64; 13]) -> bool {
-    values[8] == sum_of_words(&[loading::WORD_MARK; 4])
-        && values[9] == sum_of_words(&[loading::OWNER_MARK; 4])
-        && values[10] == sum_of_sets(&[loading::JUMPERS_MARK; 4])
-        && values[11] == sum_of_sets(&[loading::WRITERS_MARK; 4])
-        && values[12] == sum_of_sets(&[loading::READERS_MARK; 4])
+    let words = marked(values[8], loading::WORD_MARK as u64);
+    let owners = marked(values[9], loading::OWNER_MARK as u64);
+    let jumpers = marked(values[10], loading::JUMPERS_MARK);
+    let writers = marked(values[11], loading::WRITERS_MARK);
+    let readers = marked(values[12], loading::READERS_MARK);
+    words && owners && jumpers && writers && readers
 }
 
 // The loader's answer, or 999 where a refusal changed a memory's sum.

@@ -63,14 +63,42 @@ fn pair_of(size: usize, k: usize) -> usize
     if i < size { size - 1 - i } else { 0 }
 }
 
-// Puts a number of `size` bytes in, lowest byte first, until there are `count` bytes.
-fn put_number(text: &[u8], at: usize, size: usize, bytes: &mut [u8], place: usize, count: usize)
-    requires { ⌜ (0 < size) × (size ≤ 16) × (place ≤ 8280) ⌝ }
+// The words that images are filled with.
+pub(crate) fn word(i: usize) -> u32 {
+    (i % 2048 * 2000003 + 16909060) as u32
+}
+
+fn byte_of(word: u32, k: usize) -> u8 {
+    let quarter = k % 4;
+    if quarter == 0 {
+        return (word % 256) as u8;
+    }
+    if quarter == 1 {
+        return (word / 256 % 256) as u8;
+    }
+    if quarter == 2 {
+        return (word / 65536 % 256) as u8;
+    }
+    (word / 16777216) as u8
+}
+
+// Byte k of a number of `size` bytes, lowest byte first, over and over; of the words above where there is no number.
+fn byte_given(text: &[u8], at: usize, size: usize, k: usize) -> u8
+    requires { ⌜ size ≤ 16 ⌝ }
+{
+    if size == 0 {
+        return byte_of(word(k / 4), k);
+    }
+    pair(text, at % 65536 + 2 * pair_of(size, k))
+}
+
+// Puts so many bytes of a number in.
+fn put_bytes(text: &[u8], at: usize, size: usize, bytes: &mut [u8], place: usize, count: usize)
+    requires { ⌜ (size ≤ 16) × (place ≤ 8280) ⌝ }
 {
     let mut k = 0;
     while k < count {
-        let digits = at % 65536 + 2 * pair_of(size, k);
-        put(bytes, place + k % 8280, pair(text, digits));
+        put(bytes, place + k % 8280, byte_given(text, at, size, k));
         k += 1;
     }
 }
@@ -97,43 +125,14 @@ pub(crate) fn put_line(text: &[u8], at: usize, bytes: &mut [u8], i: Image) -> Im
         return i;
     }
     let count = bytes_given(text, at % 65536 + 2 * size, size);
-    put_number(text, at, size, bytes, reading::within(i.place, ROOM), count);
+    put_bytes(text, at, size, bytes, reading::within(i.place, ROOM), count);
     grown(i, count)
-}
-
-// The words that images are filled with.
-pub(crate) fn word(i: usize) -> u32 {
-    (i % 2048 * 2000003 + 16909060) as u32
-}
-
-fn byte_of(word: u32, k: usize) -> u8 {
-    let quarter = k % 4;
-    if quarter == 0 {
-        return (word % 256) as u8;
-    }
-    if quarter == 1 {
-        return (word / 256 % 256) as u8;
-    }
-    if quarter == 2 {
-        return (word / 65536 % 256) as u8;
-    }
-    (word / 16777216) as u8
-}
-
-fn put_words(bytes: &mut [u8], place: usize, count: usize)
-    requires { ⌜ place ≤ 8280 ⌝ }
-{
-    let mut k = 0;
-    while k < count {
-        put(bytes, place + k % 8280, byte_of(word(k / 4), k));
-        k += 1;
-    }
 }
 
 // So many words at the image's place.
 pub(crate) fn fill(bytes: &mut [u8], i: Image, words: usize) -> Image {
     let count = 4 * reading::within(words, 2050);
-    put_words(bytes, reading::within(i.place, ROOM), count);
+    put_bytes(b" ", 0, 0, bytes, reading::within(i.place, ROOM), count);
     grown(i, count)
 }
 

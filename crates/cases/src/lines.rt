@@ -36,14 +36,10 @@ fn show_case(kind: u8, text: &[u8], at: usize, bytes: &[u8]) {
         b'l' => loading::show_loaded(false, bytes, named(text, at)),
         // over NAME WORDS OWNERS JUMPERS WRITERS READERS: a load in strict mode
         b'o' => loading::show_loaded(true, bytes, named(text, at)),
-        // run NAME NEXT BUDGET, and strict NAME NEXT BUDGET
-        b'r' => running::show_ran(false, bytes, named(text, at)),
-        b's' => running::show_ran(true, bytes, named(text, at)),
-        // trip NAME
-        b't' => {
-            named(text, at);
-            writing::show_rewritten(bytes)
-        }
+        // run NAME NEXT BUDGET, strict NAME NEXT BUDGET, and trip NAME
+        b'r' => running::show_loaded_and(kind, false, bytes, named(text, at)),
+        b's' => running::show_loaded_and(kind, true, bytes, named(text, at)),
+        b't' => running::show_loaded_and(kind, false, bytes, named(text, at)),
         // write NAME WORDS ENTRY ROOM
         b'w' => writing::show_written(bytes, named(text, at)),
         _ => (),

@@ -31,13 +31,13 @@ pub(crate) fn digit(b: u8) -> u64
     16
 }
 
-// The place after the first `mark` from `at` on, or the text's end.
-pub(crate) fn past(text: &[u8], at: usize, mark: u8) -> usize {
+// The place after the first byte from `at` on that is not above `last`, or the text's end.
+pub(crate) fn past(text: &[u8], at: usize, last: u8) -> usize {
     let mut i = at;
     while i < text.len() {
         let b = text[i];
         i += 1;
-        if b == mark {
+        if b <= last {
             return i;
         }
     }

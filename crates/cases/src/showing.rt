@@ -1,5 +1,5 @@
 // Names, lines of numbers, and one number for the contents of a list.
-ghost use Prim.Native.Nat.{_<_};
+use crate::reading;
 use libc::STDOUT_FILENO;
 
 pub(crate) fn byte(b: u8) {
@@ -8,16 +8,14 @@ pub(crate) fn byte(b: u8) {
 
 // Shows a text from `at` up to a byte that is not above `last`; returns the place after it.
 pub(crate) fn name(text: &[u8], at: usize, last: u8) -> usize {
-    let mut i = at;
-    while i < text.len() {
-        let b = text[i];
-        i += 1;
-        if b <= last {
-            return i;
+    let next = reading::past(text, at, last);
+    if at < next {
+        if next <= text.len() {
+            let end = next - 1;
+            io::write_all(STDOUT_FILENO, &text[at..end]);
         }
-        byte(b);
     }
-    i
+    next
 }
 
 // A byte of a form: for `#` the value at k. Returns the place of the next value.
@@ -44,7 +42,7 @@ pub(crate) fn show(form: &[u8], values: [u64; 13]) {
 }
 
 // A change of one place changes the sum, unless it is by a multiple of 1000003, a prime.
-fn mixed(sum: u64, value: u64) -> u64 {
+pub(crate) fn mixed(sum: u64, value: u64) -> u64 {
     (sum % 1000003 * 31 + value % 1000003 + 1) % 1000003
 }
 

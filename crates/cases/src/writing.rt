@@ -4,6 +4,7 @@ use crate::loading;
 use crate::reading;
 use crate::reading::Numbers;
 use crate::showing;
+use machine::Processor;
 use writer::Written;
 
 // Whether two lists of bytes are equal.
@@ -14,18 +15,6 @@ fn same(one: &[u8], other: &[u8]) -> bool {
     let mut i = 0;
     while i < one.len() {
         if one[i] != other[i] {
-            return false;
-        }
-        i += 1;
-    }
-    true
-}
-
-// Whether every byte is as the room was.
-fn untouched(bytes: &[u8]) -> bool {
-    let mut i = 0;
-    while i < bytes.len() {
-        if bytes[i] != 170 {
             return false;
         }
         i += 1;
@@ -53,35 +42,21 @@ fn row(w: Written, third: u64, fourth: u64) -> [u64; 13] {
 
 // Writes words, and compares: the same bytes as these, and the room beyond them as it was.
 fn rewritten(bytes: &[u8], words: &[u32], regs: &[u32; 16], entry: u32) -> [u64; 13] {
+    let room = [170u8; 8280];
     let mut out = [170u8; 8280];
     let w = writer::write(words, regs, entry, &mut out);
     let length = reading::within(w.length, 8280);
     row(
         w,
         same(bytes, &out[..length]) as u64,
-        untouched(&out[length..]) as u64,
+        same(&room[length..], &out[length..]) as u64,
     )
 }
 
-// Load, then write.
-pub(crate) fn show_rewritten(bytes: &[u8]) {
-    let mut words = [0u32; 2048];
-    let mut owners = [0u32; 2048];
-    let mut jumpers = [0u64; 2048];
-    let mut writers = [0u64; 2048];
-    let mut readers = [0u64; 1];
-    let r = loader::load(
-        false,
-        bytes,
-        &mut words,
-        &mut owners,
-        &mut jumpers,
-        &mut writers,
-        &mut readers,
-    );
-    let cpu = r.cpu;
+// The words and the record that an image was loaded into.
+pub(crate) fn show_rewritten(bytes: &[u8], words: &[u32], cpu: Processor) {
     let regs = cpu.regs;
-    let n = reading::within(cpu.n as usize, 2048);
+    let n = reading::within(cpu.n as usize, words.len());
     showing::show(
         b" answer # length # same # kept #\n",
         rewritten(bytes, &words[..n], &regs, cpu.pc),

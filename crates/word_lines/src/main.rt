@@ -2,6 +2,9 @@
 ghost use Prim.Native.Nat.{_≤_};
 use libc::STDOUT_FILENO;
 
+// How many words the sample has.
+const SAMPLE: u32 = 256 * 256 * 511;
+
 fn text(s: &[u8]) {
     io::write_all(STDOUT_FILENO, s);
 }
@@ -60,41 +63,17 @@ fn low_part(i: u32) -> u32 {
     (i - 255) % 256 * 256
 }
 
-// 1 where the word with these fields decodes, else 0.
-fn decodes(op: u32, a: u32, b: u32, i: u32) -> u32
+// 1 where word i of the sample decodes, else 0: every opcode, every pair of registers, every low part.
+fn decodes(i: u32) -> u32
     ensures { λ r. ⌜ r ≤ 1 ⌝ }
 {
-    let value = op % 256 * 16777216 + a % 16 * 1048576 + b % 16 * 65536 + low_part(i) % 65536;
+    let value = i / 511 % 65536 * 65536 + low_part(i % 511) % 65536;
     let d = instructions::decode(value);
     let answer = d.answer;
     if answer == answers::DONE {
         return 1;
     }
     0
-}
-
-fn low_parts_that_decode(op: u32, a: u32, b: u32) -> u32
-    ensures { λ r. ⌜ r ≤ 511 ⌝ }
-{
-    let mut count: u32 = 0;
-    let mut i: u32 = 0;
-    while i < 511 {
-        count += decodes(op, a, b, i);
-        i += 1;
-    }
-    count
-}
-
-fn words_that_decode(op: u32) -> u32
-    ensures { λ r. ⌜ r ≤ 130816 ⌝ }
-{
-    let mut count: u32 = 0;
-    let mut i: u32 = 0;
-    while i < 256 {
-        count += low_parts_that_decode(op, i / 16, i % 16);
-        i += 1;
-    }
-    count
 }
 
 // How many words of an opcode the sheet's table allows, where the low 16 bits have `lows` values.
@@ -114,10 +93,10 @@ fn allowed(op: u32, lows: u32) -> u32
 
 fn sample_that_decodes() -> u32 {
     let mut count: u32 = 0;
-    let mut op: u32 = 0;
-    while op < 256 {
-        count += words_that_decode(op);
-        op += 1;
+    let mut i: u32 = 0;
+    while i < SAMPLE {
+        count += decodes(i);
+        i += 1;
     }
     count
 }
@@ -167,7 +146,7 @@ fn main() {
     show_again(0x0C108000);
     show_again(0x09120000);
     text(b"sample");
-    field(b"words", 256 * 256 * 511);
+    field(b"words", SAMPLE);
     field(b"decode", sample_that_decodes());
     field(b"table", table_allows(511));
     text(b"\n");

@@ -12,41 +12,9 @@ Inv-loop list sum₀ i₀ sum i = i ≤ length list
 abbrev μ-loop : tie.MeasureT-loop
 μ-loop list sum₀ i₀ sum i = length list - i
 
-loop-holds : tie.Need-loop-holds Inv-loop μ-loop
-loop-holds c = search needs
-
-shared-slice-read-mixed : tie.Need-shared-slice-read-mixed Inv-loop μ-loop
-shared-slice-read-mixed c = search needs
-
-cast-mixed : tie.Need-cast-mixed Inv-loop μ-loop
-cast-mixed c = omega (arith, c .shared-slice-known2 .given (c .before .before .loop .i))
-
-mixed-requires : tie.Need-mixed-requires Inv-loop μ-loop
-mixed-requires c κs = search needs
-
-add-i : tie.Need-add-i Inv-loop μ-loop
-add-i c = search needs
-
-loop-less : tie.Need-loop-less Inv-loop μ-loop
-loop-less c = search needs
-
-loop-again : tie.Need-loop-again Inv-loop μ-loop
-loop-again c = search needs
-
-returns : tie.Need-returns Inv-loop μ-loop
-returns c = search needs
-
 pub sum-of-bytes-spec : {M : Type 1} → statement M
 sum-of-bytes-spec =
     tie.close
-    (tie.spec
-    Inv-loop
-    μ-loop
-    loop-holds
-    shared-slice-read-mixed
-    cast-mixed
-    mixed-requires
-    add-i
-    loop-less
-    loop-again
-    returns)
+    (tie.spec Inv-loop μ-loop (λ c. search needs) (λ c. search needs)
+    (λ c. omega (arith, c .shared-slice-known2 .given (c .before .before .loop .i))) _ (λ c. search needs) (λ c. search needs)
+    (λ c. search needs) _)

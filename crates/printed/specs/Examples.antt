@@ -1,0 +1,2 @@
+-- The folder Examples: the sheet's lines.
+pub mod Sheet

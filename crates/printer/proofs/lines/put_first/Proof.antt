@@ -1,0 +1,102 @@
+-- Seven fields, and the line's end.
+use Rattle.printer.specs.Views.{line}
+use Rattle.printed.specs.Theorems.Lengths.{first-most}
+use Rattle.printed.specs.Text.{field, firstLine}
+use mathlib.Core.Path.{ap, _∙_}
+use Prim.Native.Nat.{ℕ}
+use Rattle.numerals.specs.Writing.{put}
+use Rattle.numerals.specs.Bytes.{bytes}
+use Rattle.text.specs.Puts.{put-behind, put-length}
+use borrow.Author.Needs.{needs}
+use Rattle.printer.proofs.lines.put_first.Statement.{statement}
+use Rattle.printer.proofs.lines.put_first.Tie as tie
+
+one-or-zero-requires : tie.Need-one-or-zero-requires
+one-or-zero-requires c κs = search needs
+
+slice-aggregate-put-field : tie.Need-slice-aggregate-put-field
+slice-aggregate-put-field c = search needs
+
+put-field-requires : tie.Need-put-field-requires
+put-field-requires c κs = search needs
+
+slice-aggregate-put-field-2 : tie.Need-slice-aggregate-put-field-2
+slice-aggregate-put-field-2 c = search needs
+
+put-field-requires-2 : tie.Need-put-field-requires-2
+put-field-requires-2 c κs = search needs
+
+slice-aggregate-put-field-3 : tie.Need-slice-aggregate-put-field-3
+slice-aggregate-put-field-3 c = search needs
+
+put-field-requires-3 : tie.Need-put-field-requires-3
+put-field-requires-3 c κs = search needs
+
+slice-aggregate-put-field-4 : tie.Need-slice-aggregate-put-field-4
+slice-aggregate-put-field-4 c = search needs
+
+put-field-requires-4 : tie.Need-put-field-requires-4
+put-field-requires-4 c κs = search needs
+
+slice-aggregate-put-field-5 : tie.Need-slice-aggregate-put-field-5
+slice-aggregate-put-field-5 c = search needs
+
+put-field-requires-5 : tie.Need-put-field-requires-5
+put-field-requires-5 c κs = search needs
+
+slice-aggregate-put-field-6 : tie.Need-slice-aggregate-put-field-6
+slice-aggregate-put-field-6 c = search needs
+
+put-field-requires-6 : tie.Need-put-field-requires-6
+put-field-requires-6 c κs = search needs
+
+slice-aggregate-put-field-7 : tie.Need-slice-aggregate-put-field-7
+slice-aggregate-put-field-7 c = search needs
+
+put-field-requires-7 : tie.Need-put-field-requires-7
+put-field-requires-7 c κs = search needs
+
+slice-aggregate-put-text : tie.Need-slice-aggregate-put-text
+slice-aggregate-put-text c = search needs
+
+put-text-requires : tie.Need-put-text-requires
+put-text-requires c κs = search needs
+
+returns : tie.Need-returns
+unfolding firstLine
+returns c = let g = c .before .before .before .before .before .before .before .before .before .before .before .before .before .before .before .before .before .before .before .before .before .before .before .before .before .before .before .before .before .before .before .before .before .before .before .before .before .before .before .before .before .before .args in
+    let f = c .before .before .before .before .before .before .before .before .before .before .before .before .before .before .before .before .before .before .before .before .before .before .before .before .before .before .before .before .before .before .before .before .before .before .before .before .before .before .before .before .before .before .fits in
+    let s2 = put-behind _ _ _ _ _ _ _ _ (c .before .before .before .before .before .before .before .before .before .before .before .before .before .before .before .before .before .before .before .before .before .before .before .before .before .before .before .before .before .before .before .before .before .before .before .before .before .put-field .ensures) (c .before .before .before .before .before .before .before .before .before .before .before .before .before .before .before .before .before .before .before .before .before .before .before .before .before .before .before .before .before .before .before .before .put-field2 .ensures) in
+    let s3 = put-behind _ _ _ _ _ _ _ _ s2 (c .before .before .before .before .before .before .before .before .before .before .before .before .before .before .before .before .before .before .before .before .before .before .before .before .before .before .before .put-field3 .ensures) in
+    let s4 = put-behind _ _ _ _ _ _ _ _ s3 (c .before .before .before .before .before .before .before .before .before .before .before .before .before .before .before .before .before .before .before .before .before .before .put-field4 .ensures) in
+    let s5 = put-behind _ _ _ _ _ _ _ _ s4 (c .before .before .before .before .before .before .before .before .before .before .before .before .before .before .before .before .before .put-field5 .ensures ∙ ap (λ (v : ℕ). put (field (bytes " jumped ") v) (c .before .before .before .before .before .before .before .before .before .before .before .before .before .before .before .before .before .before .before .before .before .before .put-field4 .result) (c .before .before .before .before .before .before .before .before .before .before .before .before .before .before .before .before .before .before .before .before .before .before .put-field4 .last .0)) (c .before .before .before .before .before .before .before .before .before .before .before .before .before .before .before .before .before .before .before .before .before .before .before .before .before .before .before .before .before .before .before .before .before .before .before .before .before .before .before .before .one-or-zero .ensures)) in
+    let s6 = put-behind _ _ _ _ _ _ _ _ s5 (c .before .before .before .before .before .before .before .before .before .before .before .before .put-field6 .ensures) in
+    let s7 = put-behind _ _ _ _ _ _ _ _ s6 (c .before .before .before .before .before .before .before .put-field7 .ensures) in
+    (put-behind _ _ _ _ _ _ _ _ s7 (c .before .before .put-text .ensures), first-most (line (g .answer) (g .steps) (g .pc) (g .prev) (g .jumped) (g .next) (g .widest)) (record { answer = f .answer .fits; steps = f .steps .fits; pc = f .pc .fits; prev = f .prev .fits; next = f .next .fits; widest = f .widest .fits }))
+
+same-length : tie.Need-same-length
+same-length c = put-length _ _ _ _ _ (returns c .0)
+
+pub put-first-spec : {M : Type 1} → statement M
+put-first-spec =
+    tie.close
+    (tie.spec
+    one-or-zero-requires
+    slice-aggregate-put-field
+    put-field-requires
+    slice-aggregate-put-field-2
+    put-field-requires-2
+    slice-aggregate-put-field-3
+    put-field-requires-3
+    slice-aggregate-put-field-4
+    put-field-requires-4
+    slice-aggregate-put-field-5
+    put-field-requires-5
+    slice-aggregate-put-field-6
+    put-field-requires-6
+    slice-aggregate-put-field-7
+    put-field-requires-7
+    slice-aggregate-put-text
+    put-text-requires
+    same-length
+    returns)

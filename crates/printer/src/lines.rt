@@ -1,0 +1,102 @@
+// The lines of the text, each put behind the one before.
+ghost use mathlib.Core.Path.{_≡_};
+ghost use mathlib.Core.List.{[]};
+ghost use Prim.Native.Nat.{_+_, _*_, _≤_};
+ghost use lib.ListN.{length};
+ghost use Rattle.common.specs.Instructions.{bit};
+ghost use Rattle.numerals.specs.Writing.{put};
+ghost use Rattle.text.specs.Puts.{putOf};
+ghost use Rattle.machine.specs.Views.{stateOf};
+ghost use Rattle.printed.specs.Text.{field, refusedLine, firstLine, rowLine, rowLines};
+ghost use Rattle.printed.specs.Outcome.{rowsFrom};
+ghost use Rattle.printer.specs.Views.{line, row};
+use machine::Processor;
+
+// A name and a number.
+fn put_field(out: &mut [u8], at: usize, name: &[u8], value: u32) -> usize
+    ensures { λ r. ⌜ putOf r (now (out .exit)) ≡ put (field (now (name .entry)) value) at (now (out .entry)) ⌝ }
+{
+    let p = text::put_text(out, at, name);
+    text::put_decimal(out, p, value)
+}
+
+// `refused R`, at the front.
+pub(crate) fn put_refused(out: &mut [u8], answer: u32) -> usize
+    ensures { λ r. ⌜ putOf r (now (out .exit)) ≡ put (refusedLine answer) 0 (now (out .entry)) ⌝ }
+    ensures { λ _. ⌜ length (refusedLine answer) ≤ 19 ⌝ }
+{
+    let p = put_field(out, 0, b"refused ", answer);
+    text::put_text(out, p, b"\n")
+}
+
+fn one_or_zero(flag: bool) -> u32
+    ensures { λ r. ⌜ r ≡ bit flag ⌝ }
+{
+    if flag {
+        return 1;
+    }
+    0
+}
+
+// The first line, at the front.
+pub(crate) fn put_first(
+    out: &mut [u8],
+    answer: u32,
+    steps: u32,
+    pc: u32,
+    prev: u32,
+    jumped: bool,
+    next: u32,
+    widest: u32,
+) -> usize
+    ensures { λ n. ⌜ putOf n (now (out .exit)) ≡ put (firstLine (line answer steps pc prev jumped next widest)) 0 (now (out .entry)) ⌝ }
+    ensures { λ _. ⌜ length (firstLine (line answer steps pc prev jumped next widest)) ≤ 108 ⌝ }
+{
+    let flag = one_or_zero(jumped);
+    let p1 = put_field(out, 0, b"answer ", answer);
+    let p2 = put_field(out, p1, b" steps ", steps);
+    let p3 = put_field(out, p2, b" pc ", pc);
+    let p4 = put_field(out, p3, b" prev ", prev);
+    let p5 = put_field(out, p4, b" jumped ", flag);
+    let p6 = put_field(out, p5, b" next ", next);
+    let p7 = put_field(out, p6, b" widest ", widest);
+    text::put_text(out, p7, b"\n")
+}
+
+// A compartment's line: number, addresses owned, addresses in J, addresses in S.
+fn put_row(out: &mut [u8], at: usize, number: u32, owned: u32, jumps: u32, stores: u32) -> usize
+    ensures { λ r. ⌜ putOf r (now (out .exit)) ≡ put (rowLine (row number owned jumps stores)) at (now (out .entry)) ⌝ }
+    ensures { λ _. ⌜ length (rowLine (row number owned jumps stores)) ≤ 44 ⌝ }
+{
+    let p1 = put_field(out, at, b"", number);
+    let p2 = put_field(out, p1, b" ", owned);
+    let p3 = put_field(out, p2, b" ", jumps);
+    let p4 = put_field(out, p3, b" ", stores);
+    text::put_text(out, p4, b"\n")
+}
+
+// A line for each compartment below next.
+pub(crate) fn put_rows(
+    out: &mut [u8],
+    at: usize,
+    cpu: Processor,
+    owners: &[u32],
+    jumpers: &[u64],
+    writers: &[u64],
+) -> usize
+    requires { ⌜ at ≤ length (now out) ⌝ }
+    ensures { λ r. ⌜ putOf r (now (out .exit)) ≡ put (rowLines (rowsFrom (stateOf cpu [] (now (owners .entry)) (now (jumpers .entry)) (now (writers .entry)) []) 0 (cpu .next))) at (now (out .entry)) ⌝ }
+    ensures { λ _. ⌜ length (rowLines (rowsFrom (stateOf cpu [] (now (owners .entry)) (now (jumpers .entry)) (now (writers .entry)) []) 0 (cpu .next))) ≤ 44 * cpu .next ⌝ }
+{
+    let next = cpu.next;
+    let mut p = at;
+    let mut c: u32 = 0;
+    while c < next {
+        let owned = report::owned(cpu, owners, c);
+        let jumps = report::jumps(cpu, jumpers, c);
+        let stores = report::stores(cpu, writers, c);
+        p = put_row(out, p, c, owned, jumps, stores);
+        c += 1;
+    }
+    p
+}
