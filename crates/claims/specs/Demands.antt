@@ -1,5 +1,5 @@
 -- The three demands of the handover note, in its order: each claim with all its quantifiers, proved by citation.
-use mathlib.Core.Path.{_≡_, refl, sym, ap, subst}
+use mathlib.Core.Path.{_≡_, refl, sym, subst}
 use mathlib.Core.Bool.{Bool, true, false, cond, _&&_, _||_, not, or-true, or-false, and-false}
 use mathlib.Core.List.{List, [], _∷_, _++_}
 use mathlib.Core.Logic.{_↔_, _⊎_, inl, inr, ⊎-elim}
@@ -9,31 +9,27 @@ use native.Mathlib.Decide.{ℕ-discrete}
 use borrow.Author.Tests.{leb-true, eqb-true}
 use lib.Dec.{leb, eqb}
 use lib.ListN.{getD, length, take, drop}
-use Rattle.common.specs.Opcodes as is
 use Rattle.common.specs.Words.{allowed, opOf, aOf, bOf, lowOf, decode, encode}
 use Rattle.common.specs.Laws.WordLaws as words
-use Rattle.common.specs.Instructions.{reg}
 use Rattle.common.specs.Services.{isService}
 use Rattle.common.specs.Laws.Tests.{both}
 use Rattle.paper.specs.Abstract as paper
-use Rattle.rules.specs.Compartments.{main}
+use Rattle.rules.specs.Compartments.{mainAlone}
 use Rattle.rules.specs.State.{State}
 use Rattle.rules.specs.Step.{Stepped, step}
 use Rattle.rules.specs.Run.{Ran, run}
-use Rattle.rules.specs.Images.{sizeIn, entryIn, wordsOf, regsOf, loaded, load, imageBytes, write}
-use Rattle.rules.specs.Cascades.{Check, Exactly}
-use Rattle.rules.specs.Conditions.{loadForbidden, checks}
+use Rattle.rules.specs.Images.{sizeIn, entryIn, wordsOf, regsOf, loaded, entryChecks, registerChecks, imageChecks, loadChecks, load, imageBytes, writeChecks, write}
+use Rattle.common.specs.Tables.{Check, Exactly}
+use Rattle.rules.specs.Checks.{loadForbidden, checks}
 use Rattle.rules.specs.Theorems.Numbers.{step-number}
-use Rattle.rules.specs.Theorems.ImageNumbers.{loadChecks, load-number, writeChecks, write-number}
+use Rattle.rules.specs.Theorems.ImageNumbers.{load-number, write-number}
 use Rattle.rules.specs.Theorems.Grows.{run-same-sizes}
 use Rattle.rules.specs.Theorems.Stays as stays
 use Rattle.rules.specs.Theorems.Refusals as refusals
 use Rattle.rules.specs.BothMachines.Match.{Match}
+use Rattle.rules.specs.BothMachines.Runs.{Wants65}
+use Rattle.rules.specs.BothMachines.Changes.{Changes, Stored}
 use Rattle.rules.specs.BothMachines.Agreement as agreement
-use Rattle.machine.specs.declared.Processor.{Processor}
-use Rattle.machine.specs.declared.Stepped as code
-use Rattle.machine.specs.declared.Ran as code-run
-use Rattle.machine.specs.Views.{cpuOf, stateOf, steppedOf, ranOf}
 use Rattle.images.specs.RoundTrip as images
 
 -- ==== 1. "Every image, state, instruction word and step count is met with an answer. Bad ones are refused by number,
@@ -90,7 +86,7 @@ run-answers budget s = go (ℕ-discrete (run budget s .answer) 0)
 
 -- any bytes in either mode, over any memories
 pub load-answers : (m : Bool) (bytes : List ℕ) (old : State) → (load m bytes old .answer ≡ 0) ⊎ ((20 ≤ load m bytes old .answer) × (load m bytes old .answer ≤ 28))
-unfolding loadChecks
+unfolding loadChecks imageChecks registerChecks entryChecks
 load-answers m bytes old = go (ℕ-discrete (load m bytes old .answer) 0)
   where
     all : every (λ k. leb 20 k && leb k 28) (loadChecks m bytes old) ≡ true
@@ -151,11 +147,11 @@ pub run-stop : (budget : ℕ) (s : State) → (run budget s .answer ≡ 0 → �
     → step (run budget s .state) ≡ record { answer = run budget s .answer; state = run budget s .state }
 run-stop = stays.ended-at
 
--- ---- "only a refused load leaves a blank processor record, as the sheet says, and the memories as they were"; main is {0}
+-- ---- "only a refused load leaves a blank processor record, as the sheet says, and the memories as they were"; mainAlone is {0}
 
-pub refused-load : (m : Bool) (bytes : List ℕ) (old : State) → (load m bytes old .answer ≡ 0 → ⊥)
-    → load m bytes old .state
-    ≡ record {
+abbrev pub blankOver : Bool → State → State
+blankOver m old =
+    record {
       cpu =
           record {
             n = 0;
@@ -164,7 +160,7 @@ pub refused-load : (m : Bool) (bytes : List ℕ) (old : State) → (load m bytes
             prev = 0;
             jumped = false;
             next = cond m 5 4;
-            services = main ∷ main ∷ main ∷ main ∷ [];
+            services = mainAlone ∷ mainAlone ∷ mainAlone ∷ mainAlone ∷ [];
             strict = m;
           };
       words = old .words;
@@ -173,6 +169,8 @@ pub refused-load : (m : Bool) (bytes : List ℕ) (old : State) → (load m bytes
       writers = old .writers;
       readers = old .readers;
     }
+
+pub refused-load : (m : Bool) (bytes : List ℕ) (old : State) → (load m bytes old .answer ≡ 0 → ⊥) → load m bytes old .state ≡ blankOver m old
 unfolding refusals.blankSpelled
 refused-load = refusals.load-refused
 
@@ -188,33 +186,8 @@ refused-fields = words.encode-refused
 
 -- ==== 2. "Each step is the one in the compartment rules of the 2015 micro-policies paper, as our sheet numbers them"
 --
--- The code's step and run are the rules' by contract: whatever outcome the contract allows, it is this in every part. That
--- the rules' step is the paper's, both ways, is demand 3. `cpuOf` and `stateOf` only rename the code's record.
-
-pub step-by-contract : (self : Processor) (words owners jumpers writers readers : List ℕ) (r : code.Stepped) (words′ owners′ jumpers′ writers′ readers′ : List ℕ)
-    → steppedOf r words′ owners′ jumpers′ writers′ readers′ ≡ step (stateOf self words owners jumpers writers readers)
-    → (r .answer ≡ step (stateOf self words owners jumpers writers readers) .answer)
-    × (cpuOf (r .cpu) ≡ step (stateOf self words owners jumpers writers readers) .state .cpu)
-    × (words′ ≡ step (stateOf self words owners jumpers writers readers) .state .words)
-    × (owners′ ≡ step (stateOf self words owners jumpers writers readers) .state .owners)
-    × (jumpers′ ≡ step (stateOf self words owners jumpers writers readers) .state .jumpers)
-    × (writers′ ≡ step (stateOf self words owners jumpers writers readers) .state .writers)
-    × (readers′ ≡ step (stateOf self words owners jumpers writers readers) .state .readers)
-step-by-contract self words owners jumpers writers readers r words′ owners′ jumpers′ writers′ readers′ h =
-    (ap (λ o. o .answer) h, ap (λ o. o .state .cpu) h, ap (λ o. o .state .words) h, ap (λ o. o .state .owners) h, ap (λ o. o .state .jumpers) h, ap (λ o. o .state .writers) h, ap (λ o. o .state .readers) h)
-
-pub run-by-contract : (self : Processor) (words owners jumpers writers readers : List ℕ) (budget : ℕ) (r : code-run.Ran) (words′ owners′ jumpers′ writers′ readers′ : List ℕ)
-    → ranOf r words′ owners′ jumpers′ writers′ readers′ ≡ run budget (stateOf self words owners jumpers writers readers)
-    → (r .answer ≡ run budget (stateOf self words owners jumpers writers readers) .answer)
-    × (r .count ≡ run budget (stateOf self words owners jumpers writers readers) .count)
-    × (cpuOf (r .cpu) ≡ run budget (stateOf self words owners jumpers writers readers) .state .cpu)
-    × (words′ ≡ run budget (stateOf self words owners jumpers writers readers) .state .words)
-    × (owners′ ≡ run budget (stateOf self words owners jumpers writers readers) .state .owners)
-    × (jumpers′ ≡ run budget (stateOf self words owners jumpers writers readers) .state .jumpers)
-    × (writers′ ≡ run budget (stateOf self words owners jumpers writers readers) .state .writers)
-    × (readers′ ≡ run budget (stateOf self words owners jumpers writers readers) .state .readers)
-run-by-contract self words owners jumpers writers readers budget r words′ owners′ jumpers′ writers′ readers′ h =
-    (ap (λ o. o .answer) h, ap (λ o. o .count) h, ap (λ o. o .state .cpu) h, ap (λ o. o .state .words) h, ap (λ o. o .state .owners) h, ap (λ o. o .state .jumpers) h, ap (λ o. o .state .writers) h, ap (λ o. o .state .readers) h)
+-- That the code's step and run are the rules' is said of their contracts, in Code. That the rules' step is the paper's, both
+-- ways, is demand 3.
 
 -- "An instruction word that is accepted and written again is the same word"
 pub word-again : (word : ℕ) → decode word .answer ≡ 0
@@ -234,25 +207,63 @@ pub image-again : (m : Bool) (bytes : List ℕ) (old : State) (out : List ℕ)
     ≡ record { answer = 0; length = length bytes; out = bytes ++ drop (length bytes) out }
 image-again = images.written-again
 
--- "whatever is written reads back as what was meant": images, in either mode and over any memories of one length with
--- room; how long the readers are is asked in strict mode only
-pub image-reads-back : (m : Bool) (words regs : List ℕ) (entry : ℕ) (out : List ℕ) (old : State)
-    → 1 ≤ length words → length words ≤ 2048 → ((i : ℕ) → i < length words → getD words i 0 < 2 ^ 32)
-    → length regs ≡ 16 → ((i : ℕ) → i < length regs → getD regs i 0 < 2 ^ 32) → entry < length words
-    → length (imageBytes words regs entry) ≤ length out → length words ≤ length (old .words)
-    → length (old .owners) ≡ length (old .words) → length (old .jumpers) ≡ length (old .words) → length (old .writers) ≡ length (old .words)
-    → (m ≡ true → length (old .readers) ≡ length (old .words))
+-- "whatever is written reads back as what was meant": images. What can be written to a buffer
+pub record Writable (words regs : List ℕ) (entry : ℕ) (out : List ℕ) : Type 0 where
+  pub least : 1 ≤ length words
+  pub most : length words ≤ 2048
+  pub small : (i : ℕ) → i < length words → getD words i 0 < 2 ^ 32
+  pub sixteen : length regs ≡ 16
+  pub small-regs : (i : ℕ) → i < length regs → getD regs i 0 < 2 ^ 32
+  pub entry-below : entry < length words
+  pub fits : length (imageBytes words regs entry) ≤ length out
+
+-- memories of one length with room; how long the readers are is asked in strict mode only
+pub record Room (m : Bool) (words : List ℕ) (old : State) : Type 0 where
+  pub enough : length words ≤ length (old .words)
+  pub owners : length (old .owners) ≡ length (old .words)
+  pub jumpers : length (old .jumpers) ≡ length (old .words)
+  pub writers : length (old .writers) ≡ length (old .words)
+  pub readers : m ≡ true → length (old .readers) ≡ length (old .words)
+
+pub image-reads-back : (m : Bool) (words regs : List ℕ) (entry : ℕ) (out : List ℕ) (old : State) → Writable words regs entry out → Room m words old
     → (write words regs entry out .answer ≡ 0)
     × (load m (take (write words regs entry out .length) (write words regs entry out .out)) old
     ≡ record { answer = 0; state = loaded m words regs entry old })
-image-reads-back = images.read-again
+image-reads-back m words regs entry out old w r =
+    images.read-again m words regs entry out old (w .least) (w .most) (w .small) (w .sixteen) (w .small-regs) (w .entry-below) (w .fits)
+    (r .enough) (r .owners) (r .jumpers) (r .writers) (r .readers)
 
 -- ==== 3. "Start from an image the loader accepts, and let no one else touch its state or memory. After any number of
 -- steps, the tagged machine and the paper's abstract machine .. agree in words, registers, position, sets and answer"
 
 -- the abstract machine starts from what the bytes say, not from the tags
-abbrev start : Bool → List ℕ → paper.State
+abbrev pub start : Bool → List ℕ → paper.State
 start m bytes = paper.initial m (wordsOf bytes) (regsOf bytes) (entryIn bytes)
+
+-- so many steps of the abstract machine
+abbrev pub abstract : Bool → List ℕ → ℕ → paper.Ran
+abstract m bytes n = paper.run n (start m bytes)
+
+-- an outcome of the tagged machine agrees with one of the abstract machine. Match: words below N, registers, pc, pc number, flag,
+-- how many compartments, and for every number and every address what A, J, S and R have; and the mode
+pub record Agreed (o : Ran) (q : paper.Ran) : Type 0 where
+  pub answer : o .answer ≡ q .answer
+  pub count : o .count ≡ q .count
+  pub match : Match (o .state) (q .state)
+
+-- "They part at one point": o is the outcome of n steps, a where the abstract machine started. There is a step, after `at` steps,
+-- that is the first to make a 65th compartment; the tagged machine stopped there with 13, all 64 being used, and stands where the
+-- abstract machine stood then
+pub record Parted (o : Ran) (n : ℕ) (a : paper.State) : Type 0 where
+  pub at : ℕ
+  pub sooner : at < n
+  pub wants : Wants65 at a
+  pub more : length (paper.run (suc at) a .state .comps) ≡ 65
+  pub least : (i : ℕ) → i ≤ at → length (paper.run i a .state .comps) ≤ 64
+  pub stops : o .answer ≡ 13
+  pub count : o .count ≡ at
+  pub full : o .state .cpu .next ≡ 64
+  pub match : Match (o .state) (paper.run at a .state)
 
 -- either mode, any bytes, any memories with any contents, on which the loader answers 0; any number of steps
 module _ (m : Bool) (bytes : List ℕ) (old : State) (accepted : load m bytes old .answer ≡ 0) (n : ℕ) where
@@ -260,46 +271,41 @@ module _ (m : Bool) (bytes : List ℕ) (old : State) (accepted : load m bytes ol
   abbrev T : Ran
   T = run n (load m bytes old .state)
 
-  abbrev A : ℕ → paper.Ran
-  A k = paper.run k (start m bytes)
+  abbrev A : paper.Ran
+  A = abstract m bytes n
 
-  -- Match: words below N, registers, pc, pc number, flag, how many compartments, and for every number and every address
-  -- what A, J, S and R have; and the mode
-  pub agree : length (A n .state .comps) ≤ 64 → (T .answer ≡ A n .answer) × (T .count ≡ A n .count) × Match (T .state) (A n .state)
-  agree h = let t = agreement.agreement m bytes old accepted n h in (t .answers, t .counts, t .match)
+  pub agree : length (A .state .comps) ≤ 64 → Agreed T A
+  agree h = let t = agreement.agreement m bytes old accepted n h in record { answer = t .answers; count = t .counts; match = t .match }
 
-  -- "They part at one point": there is a step j that is the first to make a 65th compartment; the tagged machine stopped
-  -- there with 13, all 64 being used, and stands where the abstract machine stood then
-  pub part : 64 < length (A n .state .comps)
-      → (j : ℕ) × (j < n) × (A j .answer ≡ 0) × (A j .count ≡ j) × (length (A j .state .comps) ≡ 64)
-      × (paper.step (A j .state) .answer ≡ 0) × (length (paper.step (A j .state) .state .comps) ≡ 65)
-      × (length (A (suc j) .state .comps) ≡ 65) × ((i : ℕ) → i ≤ j → length (A i .state .comps) ≤ 64)
-      × (T .answer ≡ 13) × (T .count ≡ j) × (T .state .cpu .next ≡ 64) × Match (T .state) (A j .state)
+  pub part : 64 < length (A .state .comps) → Parted T n (start m bytes)
   part h =
       let p = agreement.parting m bytes old accepted n h in
       let q = p .1 in
-      (p .0, q .sooner, q .wants .ran, q .wants .steps, q .wants .all, q .wants .makes, q .wants .another, q .more, q .least, q .stops, q .count, q .full, q .match)
+      record {
+        at = p .0;
+        sooner = q .sooner;
+        wants = q .wants;
+        more = q .more;
+        least = q .least;
+        stops = q .stops;
+        count = q .count;
+        full = q .full;
+        match = q .match;
+      }
 
   -- "the tagged machine stops for want of a compartment number exactly when all 64 are used and the abstract machine
-  -- would have made another"
-  pub thirteen : (T .answer ≡ 13)
-      ↔ ((j : ℕ) × (j < n) × (A j .answer ≡ 0) × (A j .count ≡ j) × (length (A j .state .comps) ≡ 64)
-      × (paper.step (A j .state) .answer ≡ 0) × (length (paper.step (A j .state) .state .comps) ≡ 65))
-  thirteen =
-      let t = agreement.thirteen m bytes old accepted n in (
-        λ h. let w = t .0 h in (w .0, w .1, w .2 .ran, w .2 .steps, w .2 .all, w .2 .makes, w .2 .another),
-        λ w. t .1 (w .0, w .1, record { ran = w .2; steps = w .3; all = w .4; makes = w .5; another = w .6 }),
-      )
+  -- would have made another". Wants65: so many steps all ran, 64 compartments are there, and the next step makes another
+  pub thirteen : (T .answer ≡ 13) ↔ ((j : ℕ) × (j < n) × Wants65 j (start m bytes))
+  thirteen = agreement.thirteen m bytes old accepted n
 
   -- the same of the step after n steps
-  pub step-thirteen : length (A n .state .comps) ≤ 64
+  pub step-thirteen : length (A .state .comps) ≤ 64
       → (step (T .state) .answer ≡ 13)
-      ↔ ((T .state .cpu .next ≡ 64) × (paper.step (A n .state) .answer ≡ 0)
-      × (length (paper.step (A n .state) .state .comps) ≡ suc (length (A n .state .comps))))
+      ↔ ((T .state .cpu .next ≡ 64) × (paper.step (A .state) .answer ≡ 0) × (length (paper.step (A .state) .state .comps) ≡ suc (length (A .state .comps))))
   step-thirteen = agreement.step-thirteen m bytes old accepted n
 
   -- 14 and 15 "never arise from an accepted image"; the abstract machine has no 13 either
-  pub answers : UpTo 13 m (T .answer) × UpTo 12 m (A n .answer)
+  pub answers : UpTo 13 m (T .answer) × UpTo 12 m (A .answer)
   answers = (go (eqb (T .answer) 13) refl, up-to 12 m _ (agreement.abstract-answers m bytes old accepted n))
     where
       go : (b : Bool) → eqb (T .answer) 13 ≡ b → UpTo 13 m (T .answer)
@@ -309,30 +315,20 @@ module _ (m : Bool) (bytes : List ℕ) (old : State) (accepted : load m bytes ol
   -- "Each word that changed belonged, before that step, to the compartment that stored to it or to its granted store
   -- addresses": after n steps, whatever they answered, a step that changes the word at any place x answered 0, is a Store
   -- to x < N at pc < N, and in the abstract sets before the step the one compartment that holds pc has x in A or in S
-  pub changed-words : (x : ℕ) → (getD (step (T .state) .state .words) x 0 ≡ getD (T .state .words) x 0 → ⊥)
-      → (step (T .state) .answer ≡ 0) × (T .state .cpu .pc < T .state .cpu .n)
-      × (decode (getD (T .state .words) (T .state .cpu .pc) 0) .answer ≡ 0)
-      × (decode (getD (T .state .words) (T .state .cpu .pc) 0) .op ≡ is.store)
-      × (reg (T .state .cpu .regs) (decode (getD (T .state .words) (T .state .cpu .pc) 0) .a) ≡ x) × (x < T .state .cpu .n)
-      × (paper.A-of (A n .state) (paper.current (A n .state)) (A n .state .pc) ≡ true)
-      × ((c : ℕ) → paper.A-of (A n .state) c (A n .state .pc) ≡ true → c ≡ paper.current (A n .state))
-      × ((paper.A-of (A n .state) (paper.current (A n .state)) x || paper.S-of (A n .state) (paper.current (A n .state)) x) ≡ true)
-  changed-words x d =
-      let w = agreement.words m bytes old accepted n x d in
-      (w .ran, w .at, w .decodes, w .store, w .target, w .inside, w .holds, w .one, w .may)
+  pub changed-words : (x : ℕ) → Changes (T .state) x → Stored (T .state) (A .state) x
+  changed-words = agreement.words m bytes old accepted n
 
   -- ---- the paper's own property of its machine
 
   -- each address below N, and each service, lies in one compartment and in no other
   pub one-compartment : (x : ℕ) → (x < sizeIn bytes) ⊎ (isService m x ≡ true)
-      → (c : ℕ) × (c < length (A n .state .comps)) × ((d : ℕ) → paper.A-of (A n .state) d x ≡ eqb c d)
+      → (c : ℕ) × (c < length (A .state .comps)) × ((d : ℕ) → paper.A-of (A .state) d x ≡ eqb c d)
   one-compartment = agreement.one-compartment m bytes old accepted n
 
   -- pc leaves a compartment by its jump targets: after a step that ran, the new pc is in A or J of the compartment that
   -- held the old one, as these were before the step, or the next step stops with 2 or 4
-  pub leaving : paper.step (A n .state) .answer ≡ 0
-      → (paper.step (paper.step (A n .state) .state) .answer ≡ 2)
-      ⊎ ((paper.step (paper.step (A n .state) .state) .answer ≡ 4)
-      ⊎ ((paper.A-of (A n .state) (paper.current (A n .state)) (paper.step (A n .state) .state .pc) || paper.J-of (A n .state) (paper.current (A n .state)) (paper.step (A n .state) .state .pc))
-      ≡ true))
+  pub leaving : paper.step (A .state) .answer ≡ 0
+      → (paper.step (paper.step (A .state) .state) .answer ≡ 2)
+      ⊎ ((paper.step (paper.step (A .state) .state) .answer ≡ 4)
+      ⊎ ((paper.A-of (A .state) (paper.current (A .state)) (paper.step (A .state) .state .pc) || paper.J-of (A .state) (paper.current (A .state)) (paper.step (A .state) .state .pc)) ≡ true))
   leaving = agreement.leaving m bytes old accepted n

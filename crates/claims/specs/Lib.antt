@@ -1,8 +1,18 @@
--- ---- what is promised to the customer, demand by demand
+-- ---- what is promised to the customer, demand by demand: of the rules
 pub mod Demands
 pub mod Promises
-pub mod Inner
-pub mod Counts
-pub mod Code
 pub mod Strict
 pub mod Sources
+-- ---- of the code, over its contracts
+pub mod Contracts
+pub mod HostContracts
+pub mod Memories
+pub mod Code
+pub mod Sessions
+pub mod CodeRefusals
+pub mod CodeSteps
+pub mod CodeAgreement
+pub mod CodeSources
+pub mod CodeCounts
+pub mod CodePrinted
+pub mod Once

@@ -1,14 +1,13 @@
 -- Request 2026-02: what is promised of sources, each statement in full and proved by citation.
-use mathlib.Core.Path.{_≡_, sym, ap, _∙_}
+use mathlib.Core.Path.{_≡_}
 use mathlib.Core.Bool.{Bool}
 use mathlib.Core.List.{List, []}
 use mathlib.Core.Logic.{_↔_}
 use mathlib.Core.Option.{Option, some}
 use Prim.Native.Nat.{ℕ, _^_, _*_, _≤_, _<_}
 use lib.IntN.{ℤ, pos}
-use lib.ListN.{length, getD, take, drop}
+use lib.ListN.{length, getD, drop}
 use Rattle.rules.specs.State.{State}
-use Rattle.rules.specs.Images.{Written}
 use Rattle.grammar.specs.Trees.{Expr, Instruction, Line, instruction, value}
 use Rattle.grammar.specs.Grammar.{Choices, write, deepest}
 use Rattle.grammar.specs.Reading.Reader.{got}
@@ -19,8 +18,7 @@ use Rattle.sources.specs.Values.{is, unknown, outside, valueE}
 use Rattle.sources.specs.Texts.{lines, Reading, reading, readings}
 use Rattle.sources.specs.Labels.{wordsIn, address}
 use Rattle.sources.specs.Meaning.{at-fault, outcome, says, refused, meaning, assemble}
-use Rattle.sources.specs.Meaning as sources
-use Rattle.sources.specs.Listing.{listing, disassemble}
+use Rattle.sources.specs.Listing.{listing}
 use Rattle.sources.specs.Laws.OnTheWay.{Known, Unknown, Stays, Leaves, plainE}
 use Rattle.sources.specs.Laws.ValueLaws as values
 use Rattle.sources.specs.Laws.LabelLaws as labels
@@ -32,11 +30,6 @@ use Rattle.sources.specs.Theorems.TextDecodes as decodes
 use Rattle.sources.specs.Theorems.Accepted as accepted
 use Rattle.sources.specs.Listings.ListingBack as back
 use Rattle.sources.specs.Listings.ListingLengths as lengths
-use Rattle.sources.specs.Listings.ListingNumbers as listing-numbers
-use Rattle.assembler.proofs.assemble.Reads as assembler
-use Rattle.disassembler.proofs.disassemble.Reads as disassembler
-use Rattle.disassembler.specs.declared.Listed.{Listed}
-use Rattle.assembler.specs.declared.Assembled.{Assembled}
 
 -- ---- the grammar
 
@@ -157,25 +150,3 @@ listing-back = back.listing-back
 
 pub listing-fits : (ws : List ℕ) → length (listing ws) ≤ 16 * length ws
 listing-fits = lengths.listing-fits
-
--- ---- the code: whatever outcome the contracts of its calls allow
-
--- `assemble` of crate assembler: answer, line, length and the whole buffer are those of the definition
-module _ (κs : _) (a : _) (r : Assembled) (s : _) (h : assembler.Post κs a r s) where
-  pub code-assembles : record { answer = r .answer; line = r .line; length = r .length; out = s .1 .0 .now } ≡ assemble (a .0 .now) (a .1 .0 .now)
-  code-assembles = h
-
-  -- so the loader accepts the image that it left
-  pub code-image-loads : (m : Bool) → r .answer ≡ 0 → (old : State) → accepted.Room m (a .0 .now) old → accepted.Loads m (a .0 .now) (a .1 .0 .now) old
-  code-image-loads m e = accepted.assembled-loads m (a .0 .now) (a .1 .0 .now) (sym (ap (λ (x : sources.Assembled). x .answer) h) ∙ e)
-
--- `disassemble` of crate disassembler
-module _ (κs : _) (a : _) (r : Listed) (s : _) (h : disassembler.Post κs a r s) where
-  pub code-disassembles : record { answer = r .answer; length = r .length; out = s .1 .0 .now } ≡ disassemble (a .0 .now) (a .1 .0 .now)
-  code-disassembles = h
-
-  -- what it wrote reads back as the words that it was lent
-  pub code-reads-back : back.Small (a .0 .now) → r .answer ≡ 0 → meaning (take (r .length) (s .1 .0 .now)) ≡ says (a .0 .now)
-  code-reads-back w e =
-      ap (λ (x : Written). meaning (take (x .length) (x .out))) h
-      ∙ listing-numbers.reads-back (a .0 .now) (a .1 .0 .now) w (sym (ap (λ (x : Written). x .answer) h) ∙ e)

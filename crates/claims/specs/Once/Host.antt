@@ -1,0 +1,79 @@
+-- "Two outcomes allowed by one promise are proved equal", of the calls for C, and of the counts, by value and for C.
+use mathlib.Core.List.{List}
+use Prim.Native.Nat.{ℕ}
+use Rattle.common.specs.Words as words
+use Rattle.rules.specs.Step as rules
+use Rattle.rules.specs.Run as rules-run
+use Rattle.rules.specs.Images as images
+use Rattle.sources.specs.Meaning as sources
+use Rattle.machine.specs.declared.Processor.{Processor}
+use Rattle.machine.specs.Views.{processorOf}
+use Rattle.host.specs.Views.{DecodeOutcome}
+use Rattle.host.proofs.kl_decode.Reads as kl-decode
+use Rattle.host.proofs.kl_encode.Reads as kl-encode
+use Rattle.host.proofs.kl_write.Reads as kl-write
+use Rattle.host.proofs.kl_assemble.Reads as kl-assemble
+use Rattle.host.proofs.kl_disassemble.Reads as kl-disassemble
+use Rattle.report.proofs.owned.Reads as owned
+use Rattle.report.proofs.jumps.Reads as jumps
+use Rattle.report.proofs.stores.Reads as stores
+use Rattle.report.proofs.widest.Reads as widest
+use Rattle.claims.specs.Contracts.{Once, same, same-by}
+use Rattle.claims.specs.HostContracts as kl
+use Rattle.claims.specs.Memories.{Lists, lists, listsOf}
+
+-- kl_load, kl_step, kl_run, with the record and the five memories, and for kl_run the count
+
+pub kl-load-once : Once kl.load {Out = ℕ × Processor × Lists} (λ κs r s. (r, s .0 .now, lists (s .1 .1 .1)))
+kl-load-once κs a r q s t = same-by (λ (m : images.Loaded). (m .answer, processorOf (m .state .cpu), listsOf (m .state)))
+
+pub kl-step-once : Once kl.step {Out = ℕ × Processor × Lists} (λ κs r s. (r, s .0 .now, lists (s .1)))
+kl-step-once κs a r q s t = same-by (λ (m : rules.Stepped). (m .answer, processorOf (m .state .cpu), listsOf (m .state)))
+
+pub kl-run-once : Once kl.run {Out = ℕ × Processor × Lists × ℕ} (λ κs r s. (r, s .0 .now, lists (s .1), s .1 .1 .1 .1 .1 .1 .1 .0 .now))
+kl-run-once κs a r q s t = same-by (λ (m : rules-run.Ran). (m .answer, processorOf (m .state .cpu), listsOf (m .state), m .count))
+
+-- kl_decode, with the four fields; kl_encode, with the word; kl_write, with the length and the buffer
+
+pub kl-decode-once : Once kl-decode.Post {Out = ℕ × List ℕ} (λ κs r s. (r, s .1 .0 .now))
+kl-decode-once κs a r q s t = same-by (λ (m : DecodeOutcome). (m .answer, m .fields))
+
+pub kl-encode-once : Once kl-encode.Post {Out = ℕ × ℕ} (λ κs r s. (r, s .1 .1 .1 .1 .0 .now))
+kl-encode-once κs a r q s t = same-by (λ (m : words.Encoded). (m .answer, m .word))
+
+pub kl-write-once : Once kl-write.Post {Out = ℕ × ℕ × List ℕ} (λ κs r s. (r, s .1 .1 .1 .1 .0 .now, s .1 .1 .1 .0 .now))
+kl-write-once κs a r q s t = same-by (λ (m : images.Written). (m .answer, m .length, m .out))
+
+-- kl_assemble, with the line, the length and the buffer; kl_disassemble, with the length and the buffer
+
+pub kl-assemble-once : Once kl-assemble.Post {Out = ℕ × ℕ × ℕ × List ℕ} (λ κs r s. (r, s .1 .1 .0 .now, s .1 .1 .1 .0 .now, s .1 .0 .now))
+kl-assemble-once κs a r q s t = same-by (λ (m : sources.Assembled). (m .answer, m .line, m .length, m .out))
+
+pub kl-disassemble-once : Once kl-disassemble.Post {Out = ℕ × ℕ × List ℕ} (λ κs r s. (r, s .1 .1 .0 .now, s .1 .0 .now))
+kl-disassemble-once κs a r q s t = same-by (λ (m : images.Written). (m .answer, m .length, m .out))
+
+-- report: owned, jumps, stores, widest; kl_owned, kl_jumps, kl_stores, kl_widest
+
+pub owned-once : Once owned.Post (λ κs r s. r)
+owned-once κs a r q s t = same
+
+pub jumps-once : Once jumps.Post (λ κs r s. r)
+jumps-once κs a r q s t = same
+
+pub stores-once : Once stores.Post (λ κs r s. r)
+stores-once κs a r q s t = same
+
+pub widest-once : Once widest.Post (λ κs r s. r)
+widest-once κs a r q s t = same
+
+pub kl-owned-once : Once kl.owned (λ κs r s. r)
+kl-owned-once κs a r q s t = same
+
+pub kl-jumps-once : Once kl.jumps (λ κs r s. r)
+kl-jumps-once κs a r q s t = same
+
+pub kl-stores-once : Once kl.stores (λ κs r s. r)
+kl-stores-once κs a r q s t = same
+
+pub kl-widest-once : Once kl.widest (λ κs r s. r)
+kl-widest-once κs a r q s t = same
