@@ -9,9 +9,11 @@
 #include <stdlib.h>
 #include <unistd.h>
 
-_Static_assert(sizeof(kl_processor) == 120 && offsetof(kl_processor, strict) == 77 &&
-                   offsetof(kl_processor, next) == 80 && offsetof(kl_processor, services) == 88,
-               "the record's layout on x86-64");
+_Static_assert((int)KL_PLACES == (int)MOST_WORDS && (int)KL_REGISTERS == (int)REGISTERS &&
+                   (int)KL_COMPARTMENTS == (int)MOST_COMPARTMENTS && (int)KL_IMAGE_MAX == (int)IMAGE_MOST &&
+                   (int)KL_ISOLATE == (int)ISOLATE && (int)KL_ADD_JUMP_TARGET == (int)ADD_JUMP &&
+                   (int)KL_ADD_STORE_TARGET == (int)ADD_STORE && (int)KL_ADD_READ_TARGET == (int)ADD_READ,
+               "the header's sizes and services are the sheet's");
 
 /* A kind of cases: what is done once, and what is done COUNT times with other dice. */
 static const struct kind {
@@ -62,8 +64,9 @@ int main(int argc, char **argv)
     uint64_t seed = 1, count = 20000, cases = 0;
     if (argc > 3 || (argc > 1 && !read_count(argv[1], &seed)) || (argc > 2 && !read_count(argv[2], &count))) {
         fprintf(stderr, "usage: compare [SEED [COUNT]], two whole numbers\n");
-        return 2;
+        return 4;
     }
+    setvbuf(stdout, NULL, _IOLBF, 0); /* a line as soon as it is known, also through a pipe */
     printf("compare: seed %" PRIu64 ", %" PRIu64 " rounds of each kind\n", seed, count);
     for (size_t i = 0; i < sizeof KINDS / sizeof KINDS[0]; i++) cases += compare_kind(&KINDS[i], seed, count);
     printf("compare: the slowest step took %.1f ms\n", slowest_step());

@@ -18,11 +18,24 @@
    Every call takes any values and always returns. Each answer is one number; 0 means done. A call that
    answers another number leaves everything it was lent as it was, except where its comment says more.
    The four counts (kl_owned, kl_jumps, kl_stores, kl_widest) answer a count and change nothing.
-   What the host owes: each pointer is not null and points at as many places as its length says (also
-   where the length is 0, and the readers' also where they are not looked at), what is lent to one call
-   does not overlap, and `jumped` and the mode are true or false.
 
-   On x86-64 Linux; usable from C (C99 on) and C++. */
+   What the host owes:
+     - A pointer is not null, also where its length is 0 and where it is not looked at, and points at as many
+       places as its length says. The data() of an empty std::vector may be null: lend the address of
+       anything of that type instead, with length 0.
+     - What is lent to one call does not overlap.
+     - A record that is lent was set, also one that kl_load is to fill: `jumped` and `strict` are true or
+       false, and so is the mode. Zeros will do.
+   Compare records by their fields and not by their bytes: there are bytes between the fields, and what
+   stands in them is not said.
+
+   The library keeps nothing between calls and has no state but what is lent. Calls that are lent different
+   records and memories may be made by different threads at once. What a call may write to is that call's
+   alone until it returns; the counts only read, and may share what they are lent.
+   The archive needs memcpy and memset of the C library, and nothing else. kl_assemble uses about 100 KB of the
+   stack, every other call less than 8 KB.
+
+   On x86-64 Linux; usable from C (C99 on) and C++ (C++11 on). examples/host.c is a host. */
 #ifndef KLDEMUVASH_H
 #define KLDEMUVASH_H
 
@@ -34,20 +47,105 @@
 extern "C" {
 #endif
 
+/* Grows by one where a declaration of this header is added or changes: 1 the base, 2 sources, 3 strict mode. */
+#define KL_VERSION 3
+
+/* Sizes. */
+enum {
+    KL_PLACES = 2048,      /* the most words of memory: memories of so many places hold every image */
+    KL_REGISTERS = 16,     /* r0 to r15 */
+    KL_COMPARTMENTS = 64,  /* compartment numbers are below it */
+    KL_IMAGE_MAX = 8272,   /* bytes of the longest image: enough for kl_write and kl_assemble */
+    KL_LINE_MAX = 16       /* bytes of the longest line of kl_disassemble, its LF counted */
+};
+
+/* The addresses of the services. */
+enum {
+    KL_ISOLATE = 4096,
+    KL_ADD_JUMP_TARGET = 4097,
+    KL_ADD_STORE_TARGET = 4098,
+    KL_ADD_READ_TARGET = 4099 /* in strict mode */
+};
+
+/* The answers. Each call's comment says which it gives, and when. */
+enum {
+    KL_DONE = 0,             /* the step ran, the budget is used, or the call is done */
+    KL_HALT = 1,             /* the instruction is Halt */
+    KL_NO_PLACE = 2,         /* a stop, up to KL_NO_NUMBER: pc is neither in memory nor a service */
+    KL_NO_INSTRUCTION = 3,   /* the word is no instruction */
+    KL_NO_ARRIVAL = 4,       /* arrival is not allowed */
+    KL_LOAD_OUTSIDE = 5,     /* a Load from outside memory */
+    KL_STORE_OUTSIDE = 6,    /* a Store to outside memory */
+    KL_STORE_FORBIDDEN = 7,  /* a Store to a word that is neither its owner's nor writable by it */
+    KL_BAD_SET = 8,          /* isolate: a set's own words leave memory, or a pair has first >= past */
+    KL_EMPTY_SET = 9,        /* isolate: A' is empty */
+    KL_NOT_WITHIN = 10,      /* isolate: a set names an address that the caller may not give */
+    KL_NOT_OWNED = 11,       /* an add: the caller does not own the address */
+    KL_NO_RETURN = 12,       /* a service: r15 is not the caller's to return to */
+    KL_NO_NUMBER = 13,       /* isolate: no compartment number is left */
+    KL_BAD_FORM = 14,        /* the state is refused: lengths, n, next or prev */
+    KL_BAD_OWNER = 15,       /* the state is refused: the owner of the word at pc */
+    KL_LOAD_FORBIDDEN = 17,  /* a stop, strict mode: a Load from a word that is neither its owner's nor readable by it */
+    KL_NOT_WHOLE = 20,       /* the image ends inside a field */
+    KL_BAD_SIZE = 21,        /* the number of words is not 1 to 2,048 */
+    KL_MANY_REGISTERS = 22,  /* more than 16 registers */
+    KL_LAST_ZERO = 23,       /* the last listed register is 0 */
+    KL_BAD_ENTRY_COUNT = 24, /* the entry's count is not 1 */
+    KL_BAD_ENTRY = 25,       /* the entry is not in memory */
+    KL_BYTES_LEFT = 26,      /* bytes are left over */
+    KL_LENGTHS_DIFFER = 27,  /* the lent memories differ in length */
+    KL_SHORT_MEMORY = 28,    /* the image has more words than the memories have places */
+    KL_NO_WORD = 30,         /* no instruction has these fields */
+    KL_SHORT_BUFFER = 31,    /* the out buffer is too short */
+    KL_NO_LINE = 50,         /* the line is not in the grammar */
+    KL_UNKNOWN_LABEL = 51,   /* the line uses a label that no line defines */
+    KL_LABEL_TWICE = 52,     /* the line defines a label that a line before it defines */
+    KL_VALUE_OUTSIDE = 53,   /* a value is outside its bounds */
+    KL_TOO_DEEP = 54,        /* a seventeenth bracket is opened */
+    KL_MANY_WORDS = 55       /* the line holds a word after the 2,048th */
+};
+
+/* The opcodes. */
+enum {
+    KL_OP_NOP = 0,
+    KL_OP_CONST = 1,
+    KL_OP_MOV = 2,
+    KL_OP_ADD = 3,
+    KL_OP_SUB = 4,
+    KL_OP_MUL = 5,
+    KL_OP_EQ = 6,
+    KL_OP_LEQ = 7,
+    KL_OP_LOAD = 8,
+    KL_OP_STORE = 9,
+    KL_OP_JUMP = 10,
+    KL_OP_JAL = 11,
+    KL_OP_BNZ = 12,
+    KL_OP_HALT = 13
+};
+
 /* The processor's numbers. The host may read them at any time and may set them as it likes: a step
    answers 14 or 15 where they do not form a state. It may set the mode, too: the next call then follows it. */
 typedef struct kl_processor {
-    uint32_t n;           /* N, the number of memory words: 1 to 2,048; 0 after a refused load */
-    uint32_t regs[16];    /* r0 to r15; r15 takes the return address */
-    uint32_t pc;          /* the address of the next instruction */
-    uint32_t prev;        /* the pc number: the compartment that ran last */
-    bool jumped;          /* whether the last step was a Jump, a Jal or a service */
-    bool strict;          /* the mode: whether a Load needs the owner or a reader */
-    uint32_t next;        /* the first unused compartment number: 4 to 64, in strict mode 5 to 64 */
-    uint64_t services[4]; /* the sets I of 4096 to 4099; the last is looked at and changed in strict mode only */
+    uint32_t n;                  /* N, the number of memory words: 1 to 2,048; 0 after a refused load */
+    uint32_t regs[KL_REGISTERS]; /* r0 to r15; r15 takes the return address */
+    uint32_t pc;                 /* the address of the next instruction */
+    uint32_t prev;               /* the pc number: the compartment that ran last */
+    bool jumped;                 /* whether the last step was a Jump, a Jal or a service */
+    bool strict;                 /* the mode: whether a Load needs the owner or a reader */
+    uint32_t next;               /* the first unused compartment number: 4 to 64, in strict mode 5 to 64 */
+    uint64_t services[4];        /* the sets I of 4096 to 4099; the last is looked at and changed in strict mode only */
 } kl_processor;
 
-/* Loads the image in `bytes` for a run in the mode `strict`; what the record held does not matter.
+/* Does not compile where a compiler lays the record out otherwise than the library, or has other sizes. */
+typedef char kl_layout_is_the_library_s
+    [sizeof(kl_processor) == 120 && offsetof(kl_processor, n) == 0 && offsetof(kl_processor, regs) == 4 &&
+             offsetof(kl_processor, pc) == 68 && offsetof(kl_processor, prev) == 72 && offsetof(kl_processor, jumped) == 76 &&
+             offsetof(kl_processor, strict) == 77 && offsetof(kl_processor, next) == 80 &&
+             offsetof(kl_processor, services) == 88 && sizeof(bool) == 1 && sizeof(size_t) == 8 && sizeof(void *) == 8
+         ? 1
+         : -1];
+
+/* Loads the image in `bytes` for a run in the mode `strict`, over whatever the record held.
    Answers 0: the first N places of the first four memories are filled (words from the image, owner 0,
    I = {1, 2, 3}, W empty), the places from N on keep their contents, and so do the readers; the record is
    the loaded one (registers and pc from the image, prev 0, not jumped, the mode, next 4, each service's set
@@ -69,10 +167,10 @@ uint32_t kl_load(kl_processor *cpu, bool strict, const uint8_t *bytes, size_t by
    Answers 0: the step ran, and the record and the memories are the state after it.
    Answers 1: the instruction is a Halt.
    Answers 2 to 13 or 17: the step stops. 2 pc is neither in memory nor a service; 3 no instruction; 4 arrival
-   not allowed; 5 Load outside memory; 6 Store outside memory; 7 Store not allowed; 8 a set of isolate is
-   not inside memory or has first >= past; 9 A' is empty; 10 a set goes beyond what the caller has; 11 the
-   caller does not own the target; 12 the return address is not the caller's; 13 no compartment is left; 17
-   Load not allowed.
+   not allowed; 5 Load outside memory; 6 Store outside memory; 7 Store not allowed; 8 the words of a set of
+   isolate (its count and its pairs) are not inside memory, or a pair has first >= past; 9 A' is empty; 10 a
+   set names an address that the caller may not give, also one outside memory; 11 the caller does not own the
+   target; 12 the return address is not the caller's; 13 no compartment is left; 17 Load not allowed.
    Answers 14: the first four memories differ in length, n is not 1 to 2,048 or is above that length, next is
    not 4 to 64, prev is not below next, or prev is 1, 2 or 3 while pc is a service.
    Answers 15: the owner of the word at pc is 1, 2, 3 or not below next.
@@ -121,8 +219,7 @@ uint32_t kl_write(const uint32_t *words, size_t words_len, const uint32_t regs[1
    Answers, of the first line at fault, which is told in *line, counted from 1: 50 the line is not in the grammar, 51 it uses a
    label that no line defines, 52 it defines a label that a line before defines, 53 a value is outside its bounds, 54 a
    seventeenth bracket is opened, 55 it holds a word after the 2,048th. Else, with *line 0: 21 there is no word, 31 `out` is too
-   short. Then *length is 0 and `out` is as it was. Any bytes are a text; 8,272 bytes of `out` are enough for every image.
-   The call uses about 100 KB of the stack. */
+   short. Then *length is 0 and `out` is as it was. Any bytes are a text; 8,272 bytes of `out` are enough for every image. */
 uint32_t kl_assemble(const uint8_t *text, size_t text_len, uint8_t *out, size_t out_len, uint64_t *line, size_t *length);
 
 /* Writes a source of exactly `words_len` words to the front of `out`: a line for each, an instruction as the sheet spells it, any
