@@ -26,6 +26,8 @@ uint32_t sheet_load(kl_processor *cpu, bool strict, const uint8_t *bytes, size_t
                     uint64_t *jumpers, size_t jumpers_len, uint64_t *writers, size_t writers_len,
                     uint64_t *readers, size_t readers_len);
 
+uint32_t sheet_check(const uint8_t *bytes, size_t bytes_len, uint32_t *n);
+
 uint32_t sheet_write(const uint32_t *words, size_t words_len, const uint32_t regs[16], uint32_t entry,
                      uint8_t *out, size_t out_len, size_t *length);
 

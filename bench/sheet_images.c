@@ -1,5 +1,5 @@
-/* The sheet's images in plain C: loading for either mode, and writing. Each function names the sentence of the sheet,
-   or of the request for strict mode, that it follows. */
+/* The sheet's images in plain C: loading for either mode, checking, and writing. Each function names the sentence of the
+   sheet, or of a request, that it follows. */
 #include "sheet.h"
 #include "sheet_sizes.h"
 
@@ -76,6 +76,19 @@ uint32_t sheet_load(kl_processor *cpu, bool strict, const uint8_t *bytes, size_t
     cpu->n = n;
     cpu->pc = number_at(bytes, n + 3 + listed);
     return 0;
+}
+
+/* "one call checks an image, tells N or the refusal and needs no memory": "what the filling call would over four memories
+   of 2,048 places". It makes that very load, over memories of its own. */
+uint32_t sheet_check(const uint8_t *bytes, size_t bytes_len, uint32_t *n)
+{
+    static kl_processor cpu;
+    static uint32_t words[MOST_WORDS], owners[MOST_WORDS];
+    static uint64_t jumpers[MOST_WORDS], writers[MOST_WORDS];
+    const uint32_t answer = sheet_load(&cpu, false, bytes, bytes_len, words, MOST_WORDS, owners, MOST_WORDS, jumpers,
+                                       MOST_WORDS, writers, MOST_WORDS, writers, 0);
+    *n = cpu.n;
+    return answer;
 }
 
 /* "it answers 21, 25, 31 (out buffer too short) in this order, else the length written, and the out buffer

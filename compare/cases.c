@@ -59,6 +59,7 @@ static void load_over(bool strict, size_t length, const size_t lent[MEMORIES])
     memcpy(sheet.lent, lent, sizeof sheet.lent);
     begin();
     check_load(&ours, &sheet, strict, bytes, length);
+    check_image(bytes, length);
 }
 
 /* In either mode, over memories of one length. */

@@ -329,6 +329,21 @@ uint32_t check_load(state *ours, state *sheet, bool strict, const uint8_t *bytes
     return b.answer;
 }
 
+void check_image(const uint8_t *bytes, size_t length)
+{
+    uint32_t n = any_number(), wanted = any_number();
+    const uint32_t ours = kl_check(bytes, length, &n), sheet = sheet_check(bytes, length, &wanted);
+    count_case(sheet);
+    if (ours == sheet && n == wanted) return;
+    begin_report("kl_check");
+    printf("  %zu bytes:", length);
+    for (size_t i = 0; i < length; i++) printf(" %02X", bytes[i]);
+    printf("\n");
+    show("answer", ALONE, ours, sheet);
+    show("n", ALONE, n, wanted);
+    end_report();
+}
+
 void check_decode(uint32_t word)
 {
     uint32_t a[4], b[4];

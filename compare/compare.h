@@ -58,6 +58,7 @@ uint32_t check_step(state *ours, state *sheet);   /* our side within a limit of 
 double slowest_step(void);                        /* of our side so far, in milliseconds */
 told check_run(state *ours, state *sheet, uint32_t budget);
 uint32_t check_load(state *ours, state *sheet, bool strict, const uint8_t *bytes, size_t length);
+void check_image(const uint8_t *bytes, size_t length);
 void check_decode(uint32_t word);
 void check_encode(uint32_t op, uint32_t a, uint32_t b, uint32_t low);
 void check_write(const uint32_t *words, size_t n, const uint32_t regs[16], uint32_t entry, size_t out_len);

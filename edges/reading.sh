@@ -33,6 +33,12 @@ endless_input() {
     writes 'refused 21'
 }
 
+endless_check() {
+    attempt_line 'exec "$0" check - </dev/zero'
+    ends_with 2
+    says "-: 21: the number of words"
+}
+
 # The folder that card works in, with no room left in it.
 no_working_room() {
     small_disk 0
@@ -62,13 +68,14 @@ ended_while_reading() {
 
 read_checks() {
     local command
-    for command in run asm dis; do
+    for command in run check asm dis; do
         check closed_input "$command" -- "$command: standard input is closed"
         check directory_read "$command" -- "$command: a directory, by name and on standard input"
         check no_file "$command" -- "$command: a file that is not there"
     done
     check no_right -- "run: a file that may not be read"
     check endless_input -- "run: an input that does not end is judged by its first bytes"
+    check endless_check -- "check: an input that does not end is judged by its first bytes"
     check no_working_room -- "run: no room for what is not finished"
     check ended_while_reading -- "run: ended while it reads, it leaves nothing behind"
 }

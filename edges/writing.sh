@@ -14,6 +14,13 @@ refused_source() {
     writes ''
 }
 
+check_status() { # FILE STATUS TEXT SAID
+    attempt "$card" check "$1"
+    ends_with "$2"
+    writes "$3"
+    says "$4"
+}
+
 full_output() { # COMMAND FILE
     attempt_line "exec \"\$0\" $1 \"\$1\" >/dev/full" "$2"
     ends_with 4
@@ -94,7 +101,11 @@ write_checks() {
     check run_status /dev/null 2 'refused 20' -- "run: refused is status 2"
     check refused_source -- "run: a refused source is status 2, with its line"
     check run_status "$room/loop.kl" 3 'answer 0 steps 100000 ' -- "run: a used budget is status 3"
-    for command in run dis; do
+    check check_status "$room/halt.img" 0 '1 words' '' -- "check: N and status 0"
+    check check_status "$room/loop.kl" 0 '2 words' '' -- "check: a source is assembled first"
+    check check_status /dev/null 2 '' '20: the image ends inside a field' -- "check: refused is status 2, with its sentence"
+    check check_status "$room/bad.kl" 2 '' 'bad.kl:1: 50:' -- "check: a refused source is status 2, with its line"
+    for command in run check dis; do
         check full_output "$command" "$room/eleven.img" -- "$command: standard output is full"
         check closed_output "$command" "$room/eleven.img" -- "$command: standard output is closed"
         check broken_pipe "$command" "$room/eleven.img" -- "$command: a pipe that nobody reads"

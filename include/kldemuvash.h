@@ -47,8 +47,8 @@
 extern "C" {
 #endif
 
-/* Grows by one where a declaration of this header is added or changes: 1 the base, 2 sources, 3 strict mode. */
-#define KL_VERSION 3
+/* Grows by one where a declaration of this header is added or changes: 1 the base, 2 sources, 3 strict mode, 4 kl_check. */
+#define KL_VERSION 4
 
 /* Sizes. */
 enum {
@@ -162,6 +162,14 @@ uint32_t kl_load(kl_processor *cpu, bool strict, const uint8_t *bytes, size_t by
                  uint32_t *words, size_t words_len, uint32_t *owners, size_t owners_len,
                  uint64_t *jumpers, size_t jumpers_len, uint64_t *writers, size_t writers_len,
                  uint64_t *readers, size_t readers_len);
+
+/* Checks the image in `bytes` and needs no memory: answers what kl_load would over memories of 2,048 places, in either mode.
+   Answers 0 with the image's number of words in *n, 1 to 2,048: memories of so many places, or more, are enough for kl_load.
+   Answers, the first that applies: from left to right 20 a field is not whole, 21 N not 1 to 2,048, 22 more than 16 registers, 23 the
+   last listed register is 0, 24 entry count not 1, 25 entry not below N; then 26 bytes left over. Then *n is 0. It never answers 27
+   or 28. kl_load asks nothing of an earlier check, and answers 28 before what stands behind N: an image cut short there, with N above
+   the lent length, is 28 to it and 20 here. */
+uint32_t kl_check(const uint8_t *bytes, size_t bytes_len, uint32_t *n);
 
 /* Makes one step.
    Answers 0: the step ran, and the record and the memories are the state after it.

@@ -1,4 +1,4 @@
-# card run, card asm and card dis: a program on one file, and what came of it as a text and a status.
+# card run, card check, card asm and card dis: a program on one file, and what came of it as a text and a status.
 # shellcheck shell=bash disable=SC2154
 
 sample=samples/makers.img
@@ -55,12 +55,29 @@ refuse_source() { # FILE NUMBER LINE
     finish 2
 }
 
+# Says why an image is refused, and ends with status 2.
+refuse_image() { # FILE NUMBER
+    printf '%s: %s: %s\n' "$1" "$2" "$(sentence "$2")" >&2 || true
+    finish 2
+}
+
 # Assembles ROOM/source into ROOM/image.
 assemble() { # FILE
     local number line
     launch_on card_asm source image
     if read -r _ number _ line < <(grep -x 'refused [0-9]* line [0-9]*' "$room/said"); then refuse_source "$1" "$number" "$line"; fi
     if [ "$ended" -ne 0 ] || [ -s "$room/said" ]; then failed card_asm "$1"; fi
+}
+
+# Reads FILE into ROOM/image; a source, told by its name, is assembled.
+take_image() { # FILE
+    case $1 in
+    *.kl)
+        take "$1" source source "$source_most"
+        assemble "$1"
+        ;;
+    *) take "$1" image image "$image_most" ;;
+    esac
 }
 
 assemble_source() { # SOURCE [IMAGE]
@@ -82,10 +99,7 @@ disassemble_image() { # IMAGE [SOURCE]
     find_room
     take "$1" image image "$image_most"
     launch_on card_dis image source
-    if read -r _ number < <(grep -x 'refused [0-9]*' "$room/said"); then
-        printf '%s: %s: %s\n' "$1" "$number" "$(sentence "$number")" >&2 || true
-        finish 2
-    fi
+    if read -r _ number < <(grep -x 'refused [0-9]*' "$room/said"); then refuse_image "$1" "$number"; fi
     if grep -qx 'lost entry' "$room/said"; then say "$1 does not begin at address 0, which a source cannot say"; fi
     if grep -qx 'lost registers' "$room/said"; then say "$1 lists registers, which a source cannot say"; fi
     sed -i '/^lost entry$/d; /^lost registers$/d' "$room/said"
@@ -94,8 +108,8 @@ disassemble_image() { # IMAGE [SOURCE]
     finish 0
 }
 
-# The one place where it is decided what a run came to, as a status: the run program says it as its last line on standard error, after the
-# whole text was written; a program that does not come to that could not be run.
+# The one place where it is decided what a run or a check came to, as a status: the program says it as its last line on standard error,
+# after the whole text was written; a program that does not come to that could not be run.
 verdict() {
     local told
     told=$(sed -n '$s/^status \([0-4]\)$/\1/p' "$room/said")
@@ -113,17 +127,27 @@ run_image() { # [--strict] [FILE]
     need_output
     file=${files[0]-$root/$sample}
     find_room
-    case $file in
-    *.kl)
-        take "$file" source source "$source_most"
-        assemble "$file"
-        ;;
-    *) take "$file" image image "$image_most" ;;
-    esac
+    take_image "$file"
     [ "${#files[@]}" -eq 1 ] || say "running $sample"
     launch_on "$run" image output
     verdict || came=$?
     [ "$came" -ne 4 ] || failed "$run" "$file"
     put output -
     finish "$came"
+}
+
+check_image() { # FILE
+    takes_files check 1 1 "one FILE" "$@"
+    local came=0
+    need_output
+    find_room
+    take_image "$1"
+    launch_on card_check image output
+    verdict || came=$?
+    case $came in
+    0) put output - ;;
+    2) refuse_image "$1" "$(sed -n 's/^refused \([0-9]*\)$/\1/p' "$room/said")" ;;
+    *) failed card_check "$1" ;;
+    esac
+    finish 0
 }

@@ -31,6 +31,11 @@ fn show_case(kind: u8, text: &[u8], at: usize, bytes: &[u8]) {
             named(text, at);
             damage::show_cuts(bytes)
         }
+        // examine NAME: the check, which is lent no memory
+        b'e' => {
+            named(text, at);
+            loading::show_checked(bytes)
+        }
         b'i' => show_image(text, at, bytes),
         // load NAME WORDS OWNERS JUMPERS WRITERS
         b'l' => loading::show_loaded(false, bytes, named(text, at)),

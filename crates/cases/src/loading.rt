@@ -1,4 +1,4 @@
-// A load in a mode, over memories that hold marks: all that it hands back and leaves.
+// A load in a mode, over memories that hold marks: all that it hands back and leaves. And a check, which is lent none.
 use crate::reading;
 use crate::reading::Numbers;
 use crate::showing;
@@ -111,5 +111,14 @@ pub(crate) fn show_loaded(strict: bool, bytes: &[u8], lengths: Numbers) {
     if strict {
         showing::show(b" readers #", [values[12]; 13]);
     }
+    showing::byte(10);
+}
+
+pub(crate) fn show_checked(bytes: &[u8]) {
+    let c = reader::check(bytes);
+    let mut values = [0u64; 13];
+    values[0] = c.answer as u64;
+    values[1] = c.size as u64;
+    showing::show(b" check # n #", values);
     showing::byte(10);
 }

@@ -18,8 +18,10 @@ use Rattle.instructions.proofs.encode.Reads as encode
 use Rattle.machine.proofs.Processor.step.Reads as step-of
 use Rattle.machine.proofs.Processor.run.Reads as run-of
 use Rattle.loader.proofs.load.Reads as load
+use Rattle.reader.proofs.check.Reads as check
 use Rattle.writer.proofs.write.Reads as write
 use Rattle.host.specs.Views.{DecodeOutcome, decodedBy}
+use Rattle.host.proofs.kl_check.Reads as kl-check
 use Rattle.host.proofs.kl_decode.Reads as kl-decode
 use Rattle.host.proofs.kl_encode.Reads as kl-encode
 use Rattle.host.proofs.kl_write.Reads as kl-write
@@ -27,16 +29,18 @@ use Rattle.claims.specs.Contracts.{Promise, Allows, allowed}
 use Rattle.claims.specs.HostContracts as kl
 use Rattle.claims.specs.Memories.{over, memories}
 
--- what the contracts of load, step, run, decode, encode and write allow, and that each such outcome is what the rules say; a step is seen
+-- what the contracts of load, check, step, run, decode, encode and write allow, and that each such outcome is what the rules say; a step is seen
 -- as a run of one step
 pub record Code : Type 1 where
   pub Loads : Bool → List ℕ → State → images.Loaded → Type 0
+  pub Checks : List ℕ → images.Checked → Type 0
   pub Steps : State → Ran → Type 0
   pub Runs : ℕ → State → Ran → Type 0
   pub Decodes : ℕ → words.Decoded → Type 0
   pub Encodes : ℕ → ℕ → ℕ → ℕ → words.Encoded → Type 0
   pub Writes : List ℕ → List ℕ → ℕ → List ℕ → images.Written → Type 0
   pub loads : (m : Bool) (bytes : List ℕ) (old : State) (o : images.Loaded) → Loads m bytes old o → o ≡ images.load m bytes old
+  pub checks : (bytes : List ℕ) (o : images.Checked) → Checks bytes o → o ≡ images.check bytes
   pub steps : (s : State) (o : Ran) → Steps s o → o ≡ run 1 s
   pub runs : (budget : ℕ) (s : State) (o : Ran) → Runs budget s o → o ≡ run budget s
   pub decodes : (word : ℕ) (o : words.Decoded) → Decodes word o → o ≡ words.decode word
@@ -55,7 +59,7 @@ run-one s = go (eqb (step s .answer) 0) refl
     go true e = let h : step s .answer ≡ 0 = eqb-true _ _ e in simp h
     go false e = simp e
 
--- ---- by value: loader::load, Processor::step and run, instructions::decode and encode, writer::write
+-- ---- by value: loader::load, reader::check, Processor::step and run, instructions::decode and encode, writer::write
 
 abbrev pub by-load : Promise load.Post (Bool × List ℕ × State) images.Loaded
 by-load =
@@ -63,6 +67,15 @@ by-load =
       given = λ κs a. (a .0, a .1 .0 .now, memories (a .1 .1));
       left = λ κs r s. record { answer = r .answer; state = over (r .cpu) (s .1 .1) };
       meant = λ i. images.load (i .0) (i .1) (i .2);
+      says = λ κs a r s h. h;
+    }
+
+abbrev pub by-check : Promise check.Post (List ℕ) images.Checked
+by-check =
+    record {
+      given = λ κs a. a .0 .now;
+      left = λ κs r s. record { answer = r .answer; size = r .size };
+      meant = images.check;
       says = λ κs a r s h. h;
     }
 
@@ -105,7 +118,7 @@ by-write =
       says = λ κs a r s h. h;
     }
 
--- ---- for C: kl_load, kl_step, kl_run, kl_decode, kl_encode, kl_write
+-- ---- for C: kl_load, kl_check, kl_step, kl_run, kl_decode, kl_encode, kl_write
 
 abbrev pub by-kl-load : Promise kl.load (Bool × List ℕ × State) images.Loaded
 by-kl-load =
@@ -113,6 +126,15 @@ by-kl-load =
       given = λ κs a. (a .1 .0, a .1 .1 .0 .now, memories (a .1 .1 .1));
       left = λ κs r s. record { answer = r; state = over (s .0 .now) (s .1 .1 .1) };
       meant = λ i. images.load (i .0) (i .1) (i .2);
+      says = λ κs a r s h. h;
+    }
+
+abbrev pub by-kl-check : Promise kl-check.Post (List ℕ) images.Checked
+by-kl-check =
+    record {
+      given = λ κs a. a .0 .now;
+      left = λ κs r s. record { answer = r; size = s .1 .0 .now };
+      meant = images.check;
       says = λ κs a r s h. h;
     }
 
@@ -171,12 +193,14 @@ abbrev pub by-value : Code
 by-value =
     record {
       Loads = λ m bytes old. Allows load.Post by-load (m, bytes, old);
+      Checks = Allows check.Post by-check;
       Steps = Allows step-of.Post by-step;
       Runs = λ budget s. Allows run-of.Post by-run (budget, s);
       Decodes = Allows decode.Post by-decode;
       Encodes = λ op a b low. Allows encode.Post by-encode (op, a, b, low);
       Writes = λ ws regs entry out. Allows write.Post by-write (ws, regs, entry, out);
       loads = λ m bytes old. allowed load.Post by-load (m, bytes, old);
+      checks = allowed check.Post by-check;
       steps = allowed step-of.Post by-step;
       runs = λ budget s. allowed run-of.Post by-run (budget, s);
       decodes = allowed decode.Post by-decode;
@@ -188,12 +212,14 @@ abbrev pub for-C : Code
 for-C =
     record {
       Loads = λ m bytes old. Allows kl.load by-kl-load (m, bytes, old);
+      Checks = Allows kl-check.Post by-kl-check;
       Steps = Allows kl.step by-kl-step;
       Runs = λ budget s. Allows kl.run by-kl-run (budget, s);
       Decodes = Allows kl-decode.Post by-kl-decode;
       Encodes = λ op a b low. Allows kl-encode.Post by-kl-encode (op, a, b, low);
       Writes = λ ws regs entry out. Allows kl-write.Post by-kl-write (ws, regs, entry, out);
       loads = λ m bytes old. allowed kl.load by-kl-load (m, bytes, old);
+      checks = allowed kl-check.Post by-kl-check;
       steps = allowed kl.step by-kl-step;
       runs = λ budget s. allowed kl.run by-kl-run (budget, s);
       decodes = allowed kl-decode.Post by-kl-decode;

@@ -51,11 +51,11 @@ up-to top m k h = go (leb k top) refl
     go false e = let t = both m _ (simp e at h) in inr (t .0, eqb-true _ _ (t .1))
 
 -- every number of a list of checks passes a test where its check holds, so a number that is given passes it
-abbrev every : (ℕ → Bool) → List Check → Bool
+abbrev pub every : (ℕ → Bool) → List Check → Bool
 every test [] = true
 every test (c ∷ cs) = (not (c .holds) || test (c .number)) && every test cs
 
-given : (test : ℕ → Bool) (cs : List Check) (k : ℕ) → every test cs ≡ true → Exactly cs k → test k ≡ true
+pub given : (test : ℕ → Bool) (cs : List Check) (k : ℕ) → every test cs ≡ true → Exactly cs k → test k ≡ true
 unfolding Exactly
 given test [] k h x = absurd x
 given test (c ∷ cs) k h (inl w) = subst (λ (n : ℕ). test n ≡ true) (w .1) (simp (w .0) at (both (not (c .holds) || test (c .number)) _ h .0))

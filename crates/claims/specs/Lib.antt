@@ -15,4 +15,5 @@ pub mod CodeAgreement
 pub mod CodeSources
 pub mod CodeCounts
 pub mod CodePrinted
+pub mod Checking
 pub mod Once

@@ -15,6 +15,9 @@ use Rattle.report.specs.Wholes as report
 abbrev pub loadedBy : Processor → ℕ → List ℕ → List ℕ → List ℕ → List ℕ → List ℕ → images.Loaded
 loadedBy cpu answer words owners jumpers writers readers = record { answer = answer; state = stateOf cpu words owners jumpers writers readers }
 
+abbrev pub checkedBy : ℕ → ℕ → images.Checked
+checkedBy answer n = record { answer = answer; size = n }
+
 abbrev pub steppedBy : Processor → ℕ → List ℕ → List ℕ → List ℕ → List ℕ → List ℕ → step.Stepped
 steppedBy cpu answer words owners jumpers writers readers = record { answer = answer; state = stateOf cpu words owners jumpers writers readers }
 

@@ -4,13 +4,13 @@ ghost use mathlib.Core.List.{[]};
 ghost use Rattle.common.specs.Words.{decode, encode};
 ghost use Rattle.rules.specs.Step.{step};
 ghost use Rattle.rules.specs.Run.{run};
-ghost use Rattle.rules.specs.Images.{load, write};
+ghost use Rattle.rules.specs.Images.{load, check, write};
 ghost use Rattle.rules.specs.Counts.{ownedCount, jumpCount, storeCount, widest};
 ghost use Rattle.sources.specs.Meaning.{assemble};
 ghost use Rattle.sources.specs.Listing.{disassemble};
 ghost use Rattle.machine.specs.Views.{stateOf};
 ghost use Rattle.loader.specs.Views.{lent};
-ghost use Rattle.host.specs.Views.{loadedBy, steppedBy, ranBy, decodedBy, laidOut, encodedBy, writtenBy, assembledBy};
+ghost use Rattle.host.specs.Views.{loadedBy, checkedBy, steppedBy, ranBy, decodedBy, laidOut, encodedBy, writtenBy, assembledBy};
 use machine::Processor;
 
 // Loads an image over whatever the record held, for a run in a mode; a refused load leaves the blank record of that mode.
@@ -30,6 +30,16 @@ pub extern "C" fn kl_load(
     let l = loader::load(strict, bytes, words, owners, jumpers, writers, readers);
     *cpu = l.cpu;
     l.answer
+}
+
+// Checks an image, with no memory: what a load into memories of 2,048 places would answer. n is N, or 0 where the image is refused.
+#[no_mangle]
+pub extern "C" fn kl_check(bytes: &[u8], n: &mut u32) -> u32
+    ensures { λ r. ⌜ checkedBy r (now (n .exit)) ≡ check (now (bytes .entry)) ⌝ }
+{
+    let c = reader::check(bytes);
+    *n = c.size;
+    c.answer
 }
 
 // One step.

@@ -1,12 +1,17 @@
 -- The reader's returns, in the form in which the code comes to them.
-use mathlib.Core.Path.{_≡_, sym, ap, _∙_}
+use mathlib.Core.Path.{_≡_, refl, sym, ap, _∙_}
+use mathlib.Core.Bool.{Bool, true, false}
 use mathlib.Core.List.{List, _++_}
 use Prim.Native.Nat.{ℕ, _+_, _-_, _*_, _≤_}
 use native.Mathlib.Omega.{arith}
-use borrow.Author.Tests.{ne-eqb}
+use borrow.Author.Tests.{eqb-true, ne-eqb}
+use lib.Dec.{eqb}
 use lib.ListN.{length, replicate}
-use Rattle.rules.specs.Images.{field, fields, sizeIn, registersAt, registersIn, entryAt, entryIn, regsOf, imageVerdict}
+use Rattle.common.specs.Answers as answer
+use Rattle.rules.specs.Images.{field, fields, sizeIn, registersAt, registersIn, entryAt, entryIn, regsOf, imageVerdict, check}
 use Rattle.images.specs.Accepted.{Accepted, accepted}
+use Rattle.images.specs.Checking.{check-is}
+use Rattle.reader.specs.declared.Image.{Image}
 use Rattle.reader.specs.Views.{imageOf}
 
 pub says-refusal : (room : ℕ) (bytes : List ℕ) (v : ℕ) → v ≡ imageVerdict room bytes → (v ≡ 0 → ⊥)
@@ -40,3 +45,16 @@ module _ (room : ℕ) (bytes : List ℕ) (v : ℕ) (e : v ≡ imageVerdict room 
         let regs′ : regs ≡ regsOf bytes = g ∙ ap (λ (x : ℕ). fields bytes (4 + 4 * x + 4) count ++ replicate (16 - count) 0) s ∙ ap (λ (k : ℕ). fields bytes (registersAt bytes + 4) k ++ replicate (16 - k) 0) c in
         let entry′ : entry ≡ entryIn bytes = f ∙ ap (field bytes) end in
         simp (sym e ∙ z, z, s, regs′, entry′)
+
+-- ---- the check: what the image says for memories of 2,048 places, but for registers and entry
+
+pub says-check : (bytes : List ℕ) (image : Image) → image ≡ imageOf 2048 bytes → record { answer = image .answer; size = image .size } ≡ check bytes
+unfolding imageOf
+says-check bytes image i = simp i (go (eqb (imageVerdict 2048 bytes) answer.done) refl)
+  where
+    read : Image
+    read = imageOf 2048 bytes
+
+    go : (t : Bool) → eqb (imageVerdict 2048 bytes) answer.done ≡ t → record { answer = read .answer; size = read .size } ≡ check bytes
+    go true e = simp (check-is, eqb-true (imageVerdict 2048 bytes) answer.done e)
+    go false e = simp (e, check-is)

@@ -1,12 +1,12 @@
-// Reads an image: what it says, or why it is refused.
+// Reads an image: what it says, or why it is refused; and N alone, for a host that has lent nothing yet.
 mod verdict;
 
 ghost use mathlib.Core.Path.{_≡_};
 ghost use Prim.Native.Nat.{_+_, _-_, _*_, _≤_};
 ghost use mathlib.Core.List.{[], _∷_, _++_};
 ghost use lib.ListN.{length, replicate};
-ghost use Rattle.rules.specs.Images.{field, fields};
-ghost use Rattle.reader.specs.Views.{imageOf};
+ghost use Rattle.rules.specs.Images.{field, fields, check};
+ghost use Rattle.reader.specs.Views.{imageOf, checkedOf};
 use crate::verdict::image_verdict;
 
 // Answer 0 with N, the sixteen registers and the entry; or a refusal and zeros.
@@ -16,6 +16,15 @@ pub struct Image {
     pub regs: [u32; 16],
     pub entry: u32,
 }
+
+// Answer 0 with N; or a refusal and 0.
+pub struct Checked {
+    pub answer: u32,
+    pub size: u32,
+}
+
+// Memories of so many places hold every image.
+const PLACES: usize = 2048;
 
 // The number of four bytes, lowest first.
 pub fn number(b0: u8, b1: u8, b2: u8, b3: u8) -> u32
@@ -69,5 +78,16 @@ pub fn read(bytes: &[u8], lent: usize) -> Image
         size,
         regs,
         entry,
+    }
+}
+
+// Checks an image, with no memory: what a load into memories of 2,048 places would answer, and N.
+pub fn check(bytes: &[u8]) -> Checked
+    ensures { λ r. ⌜ checkedOf r ≡ check (now (bytes .entry)) ⌝ }
+{
+    let image = read(bytes, PLACES);
+    Checked {
+        answer: image.answer,
+        size: image.size,
     }
 }

@@ -9,6 +9,7 @@ use Rattle.sources.specs.Meaning as sources
 use Rattle.machine.specs.declared.Processor.{Processor}
 use Rattle.machine.specs.Views.{processorOf}
 use Rattle.host.specs.Views.{DecodeOutcome}
+use Rattle.host.proofs.kl_check.Reads as kl-check
 use Rattle.host.proofs.kl_decode.Reads as kl-decode
 use Rattle.host.proofs.kl_encode.Reads as kl-encode
 use Rattle.host.proofs.kl_write.Reads as kl-write
@@ -32,6 +33,11 @@ kl-step-once κs a r q s t = same-by (λ (m : rules.Stepped). (m .answer, proces
 
 pub kl-run-once : Once kl.run {Out = ℕ × Processor × Lists × ℕ} (λ κs r s. (r, s .0 .now, lists (s .1), s .1 .1 .1 .1 .1 .1 .1 .0 .now))
 kl-run-once κs a r q s t = same-by (λ (m : rules-run.Ran). (m .answer, processorOf (m .state .cpu), listsOf (m .state), m .count))
+
+-- kl_check, with N
+
+pub kl-check-once : Once kl-check.Post {Out = ℕ × ℕ} (λ κs r s. (r, s .1 .0 .now))
+kl-check-once κs a r q s t = same-by (λ (m : images.Checked). (m .answer, m .size))
 
 -- kl_decode, with the four fields; kl_encode, with the word; kl_write, with the length and the buffer
 

@@ -16,6 +16,7 @@ use Rattle.service.specs.declared.Served.{Served}
 use Rattle.machine.specs.declared.Stepped.{Stepped}
 use Rattle.machine.specs.declared.Ran.{Ran}
 use Rattle.machine.specs.Views.{processorOf}
+use Rattle.reader.specs.declared.Checked.{Checked}
 use Rattle.loader.specs.declared.Loaded.{Loaded}
 use Rattle.writer.specs.declared.Written.{Written}
 use Rattle.compartments.proofs.Set.none.Reads as none
@@ -36,6 +37,7 @@ use Rattle.machine.proofs.Processor.step.Reads as step
 use Rattle.machine.proofs.Processor.run.Reads as run
 use Rattle.reader.proofs.number.Reads as number
 use Rattle.reader.proofs.read.Reads as read
+use Rattle.reader.proofs.check.Reads as check
 use Rattle.loader.proofs.load.Reads as load
 use Rattle.writer.proofs.write.Reads as write
 use Rattle.claims.specs.Contracts.{Once, same, same-by}
@@ -117,13 +119,19 @@ pub run-once : Once run.Post {Out = Ran × Lists} (λ κs r s. (r, lists (s .1))
 run-once κs a r q s t =
     same-by (λ (m : rules-run.Ran). (record { cpu = processorOf (m .state .cpu); answer = m .answer; count = m .count }, listsOf (m .state)))
 
--- reader: number; read, which is lent the bytes and changes nothing
+-- reader: number; read and check, which are lent the bytes and change nothing
 
 pub number-once : Once number.Post (λ κs r s. r)
 number-once κs a r q s t = same
 
 pub read-once : Once read.Post (λ κs r s. r)
 read-once κs a r q s t = same
+
+abbrev checkedIn : images.Checked → Checked
+checkedIn c = record { answer = c .answer; size = c .size }
+
+pub check-once : Once check.Post (λ κs r s. r)
+check-once κs a r q s t = same-by checkedIn
 
 -- loader: load, with the five memories
 
