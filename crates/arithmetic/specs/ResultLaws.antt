@@ -1,13 +1,13 @@
 -- The results in the form in which the code comes to them.
-use mathlib.Core.Path.{_≡_, refl, _∙_}
+use mathlib.Core.Path.{_≡_, ap, _∙_}
 use mathlib.Core.Bool.{Bool, true, false, cond}
 use mathlib.Core.Logic.{_≢_}
-use Prim.Native.Nat.{ℕ, _+_, _*_, _%_, _^_, _<_}
+use Prim.Native.Nat.{ℕ, _+_, _*_, _%_, _^_, _≤_, _<_}
 use native.Mathlib.Omega.{arith}
-use borrow.Author.Tests.{ne-eqb}
-use lib.Dec.{ltb, leb, eqb}
+use borrow.Author.Tests.{ne-eqb, lt-ltb, le-ltb}
+use lib.Dec.{leb, eqb}
 use Rattle.common.specs.Instructions.{minus, bit, arithmetic}
-use Rattle.arithmetic.specs.Targets.{takenOff, branchTarget}
+use Rattle.arithmetic.specs.Targets.{branchTarget}
 
 -- what the library's difference says is the difference modulo 2^32
 difference : (x y r : ℕ) → x < 2 ^ 32 → y < 2 ^ 32 → r < 2 ^ 32 → (r + y) % 2 ^ 32 ≡ x → r ≡ minus x y
@@ -39,11 +39,14 @@ module _ (op x y r : ℕ) where
   is-comparison a b c equal ee ordered eo e =
       simp (ne-eqb op 3 a, ne-eqb op 4 b, ne-eqb op 5 c, e, is-bit (eqb x y) equal ee, is-bit (leb x y) ordered eo)
 
-pub is-target : (pc low sum : ℕ) → sum ≡ (pc + low) % 2 ^ 32 → (back : ℕ) → back ≡ cond (ltb low 32768) 0 65536 → (r : ℕ) → r < 2 ^ 32 → (r + back) % 2 ^ 32 ≡ sum
-    → r ≡ branchTarget pc low
-unfolding branchTarget takenOff
-is-target pc low sum es back eb r hr er = go (ltb low 32768) refl
-  where
-    go : (t : Bool) → ltb low 32768 ≡ t → r ≡ branchTarget pc low
-    go true e = let b : back ≡ 0 = eb ∙ simp e in simp (e, ← es) (difference sum 0 r (omega arith) (omega arith) hr (omega arith))
-    go false e = let b : back ≡ 65536 = eb ∙ simp e in simp (e, ← es) (difference sum 65536 r (omega arith) (omega arith) hr (omega arith))
+module _ (pc low r : ℕ) where
+  pub is-forward : low < 32768 → r ≡ (pc + low) % 2 ^ 32 → r ≡ branchTarget pc low
+  unfolding branchTarget
+  is-forward h e = simp (lt-ltb low 32768 h, e)
+
+  -- `by` is the distance
+  pub is-back : 32768 ≤ low → low < 2 ^ 32 → (by : ℕ) → by < 2 ^ 32 → (by + low) % 2 ^ 32 ≡ 65536 → pc < 2 ^ 32 → r < 2 ^ 32 → (r + by) % 2 ^ 32 ≡ pc
+      → r ≡ branchTarget pc low
+  unfolding branchTarget
+  is-back h hl by hb eb hp hr er =
+      simp (le-ltb low 32768 h) (difference pc by r hp hb hr er ∙ ap (minus pc) (difference 65536 low by (omega arith) hl hb eb))

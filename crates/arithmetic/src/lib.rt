@@ -24,10 +24,13 @@ pub fn arith(op: u32, x: u32, y: u32) -> u32
     }
 }
 
-// pc and an offset of 16 bits in two's complement.
+// Below 32,768 the low part is added to pc; any other has its distance to 65,536 taken away from pc.
 pub fn branch_target(pc: u32, low: u32) -> u32
     ensures { λ r. ⌜ r ≡ branchTarget pc low ⌝ }
 {
-    let back = pick(low < 32768, 0, 65536);
-    std::num::wrapping_sub_u32(std::num::wrapping_add_u32(pc, low), back)
+    if low < 32768 {
+        std::num::wrapping_add_u32(pc, low)
+    } else {
+        std::num::wrapping_sub_u32(pc, std::num::wrapping_sub_u32(65536, low))
+    }
 }

@@ -11,7 +11,7 @@ use Rattle.common.specs.Answers as answer
 use Rattle.common.specs.Opcodes as is
 use Rattle.common.specs.Words.{Decoded}
 use Rattle.common.specs.Laws.WordLaws.{decoded-small}
-use Rattle.common.specs.Instructions.{Offset, forward, back, bit, arithmetic, offset, displaced, branch, pcAfter, regsAfter, wordsAfter}
+use Rattle.common.specs.Instructions.{bit, arithmetic, branch, pcAfter, regsAfter, wordsAfter}
 use Rattle.rules.specs.State.{State}
 use Rattle.rules.specs.Checks.{instructionAt}
 use Rattle.rules.specs.Step.{ranInstruction, isolated, jumpAdded, storeAdded, readAdded, step}
@@ -75,11 +75,7 @@ arithmetic-word op x y =
 
 branch-word : (pc low : ℕ) → Word (branch pc low)
 unfolding branch
-branch-word pc low = go (offset low)
-  where
-    go : (o : Offset) → Word (displaced pc o)
-    go (forward by) = unfold displaced in omega arith
-    go (back by) = unfold displaced in omega arith
+branch-word pc low = word-either (ltb low 32768) _ _ (omega arith) (omega arith)
 
 pub record Held (s : State) : Type 0 where
   pub pc : Word (s .cpu .pc)

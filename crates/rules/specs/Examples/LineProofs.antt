@@ -11,7 +11,7 @@ use lib.Seq.{getD-set-same}
 use Rattle.common.specs.Answers as answer
 use Rattle.common.specs.Opcodes as is
 use Rattle.common.specs.Words.{row, allowed, Decoded, instruction, decode}
-use Rattle.common.specs.Instructions.{offset, displaced, branch, reg, arithmetic, pcAfter, regsAfter, wordsAfter, jumps}
+use Rattle.common.specs.Instructions.{offset, branch, reg, arithmetic, pcAfter, regsAfter, wordsAfter, jumps}
 use Rattle.common.specs.Services.{isolate, serviceCount, isService, serviceAt, isServiceNumber}
 use Rattle.common.specs.Laws.ServiceLaws.{service-count, is-service}
 use Rattle.common.specs.AddressSets.{isEmpty, inSet}
@@ -67,7 +67,7 @@ unfolding tested
 no-place s h o = answer-is s ∙ verdict-tested s ∙ simp (h, o)
 
 back-pc : (regs : List ℕ) → (reg regs 1 ≡ 0 → ⊥) → pcAfter (decode 0x0C10FFFF) 0 regs ≡ 4294967295
-unfolding pcAfter decode row allowed branch offset displaced
+unfolding pcAfter decode row allowed branch
 back-pc regs h = simp (ne-eqb (reg regs 1) 0 h)
 
 far : (m : Bool) → isService m 4294967295 ≡ false
