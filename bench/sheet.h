@@ -38,6 +38,7 @@ uint32_t sheet_jumps(const kl_processor *cpu, const uint64_t *jumpers, size_t ju
 
 uint32_t sheet_stores(const kl_processor *cpu, const uint64_t *writers, size_t writers_len, uint32_t number);
 
-uint32_t sheet_widest(const kl_processor *cpu, const uint64_t *writers, size_t writers_len);
+uint32_t sheet_widest(const kl_processor *cpu, const uint32_t *owners, size_t owners_len, const uint64_t *writers,
+                      size_t writers_len);
 
 #endif

@@ -43,14 +43,16 @@ uint32_t sheet_stores(const kl_processor *cpu, const uint64_t *writers, size_t w
     return sets_with(writers, places(cpu, writers_len), number);
 }
 
-/* "the most ones in any W". */
-uint32_t sheet_widest(const kl_processor *cpu, const uint64_t *writers, size_t writers_len)
+/* The most compartments that may write to any word: "it counts the owner together with the writers, once each when it is
+   in both". */
+uint32_t sheet_widest(const kl_processor *cpu, const uint32_t *owners, size_t owners_len, const uint64_t *writers,
+                      size_t writers_len)
 {
     uint32_t most = 0;
-    for (size_t x = 0; x < places(cpu, writers_len); x++) {
-        uint32_t ones = 0;
-        for (uint64_t rest = writers[x]; rest != 0; rest &= rest - 1) ones++;
-        if (ones > most) most = ones;
+    for (size_t x = 0; x < places(cpu, owners_len) && x < writers_len; x++) {
+        uint32_t found = !in(writers[x], owners[x]);
+        for (uint64_t rest = writers[x]; rest != 0; rest &= rest - 1) found++;
+        if (found > most) most = found;
     }
     return most;
 }

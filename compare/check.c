@@ -201,8 +201,9 @@ static void compare_counted(const counted *a, const counted *b)
     for (uint32_t c = 0; c < 66; c++) compare_number(a, b, c);
     compare_number(a, b, UINT32_MAX);
     if (b->lent[OWNERS] > 0) compare_number(a, b, b->owners[0]);
-    settle_count("kl_widest", b, ALONE, kl_widest(a->cpu, a->writers, a->lent[WRITERS]),
-                 sheet_widest(b->cpu, b->writers, b->lent[WRITERS]));
+    settle_count("kl_widest", b, ALONE,
+                 kl_widest(a->cpu, a->owners, a->lent[OWNERS], a->writers, a->lent[WRITERS]),
+                 sheet_widest(b->cpu, b->owners, b->lent[OWNERS], b->writers, b->lent[WRITERS]));
 }
 
 /* The states are equal before, and must be after. */

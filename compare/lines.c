@@ -45,8 +45,9 @@ void row(uint32_t c, uint32_t owned, uint32_t jump, uint32_t store)
 
 static void widest(uint32_t wanted)
 {
-    expect("widest", kl_widest(&line_ours.cpu, line_ours.writers, line_ours.lent[WRITERS]),
-           sheet_widest(&line_sheet.cpu, line_sheet.writers, line_sheet.lent[WRITERS]), wanted);
+    const state *a = &line_ours, *b = &line_sheet;
+    expect("widest", kl_widest(&a->cpu, a->owners, a->lent[OWNERS], a->writers, a->lent[WRITERS]),
+           sheet_widest(&b->cpu, b->owners, b->lent[OWNERS], b->writers, b->lent[WRITERS]), wanted);
 }
 
 static void decodes(uint32_t word, uint32_t answer, uint32_t op, uint32_t a, uint32_t b, uint32_t low)
@@ -98,7 +99,7 @@ static void image_one(bool strict)
     row(0, 4, services, 0);
     for (uint32_t c = 1; c <= services; c++) row(c, 1, 4, 0);
     row(services + 1, 0, 0, 0);
-    widest(0);
+    widest(1);
     expect("prev", line_ours.cpu.prev, line_sheet.cpu.prev, 0);
     expect("jumped", line_ours.cpu.jumped, line_sheet.cpu.jumped, 0);
     expect("strict", line_ours.cpu.strict, line_sheet.cpu.strict, strict);
@@ -125,11 +126,11 @@ static void image_two_lines(void)
     row(0, 12, 3, 0);
     for (uint32_t c = 1; c < 4; c++) row(c, 1, 13, 0);
     row(4, 1, 0, 0);
-    widest(0);
+    widest(1);
     image_two(STORE_(5, 1), 4098);
     runs("image two after 12 was added as a store target", 100000, 1, 8, 7);
     row(0, 12, 3, 1);
-    widest(1);
+    widest(2);
     image_two(BNZ_(5, 6), 0);
     runs("Bnz to 12", 100000, 4, 8, 12);
     image_two(BNZ_(5, 6), 4097);

@@ -43,7 +43,7 @@ static int run(void)
     uint32_t count;
     const uint32_t answer = kl_run(&cpu, words, n, owners, n, jumpers, n, writers, n, readers, n, 100000, &count);
     printf("answer %u steps %u pc %u prev %u jumped %d next %u widest %u\n", answer, count, cpu.pc, cpu.prev, cpu.jumped,
-           cpu.next, kl_widest(&cpu, writers, n));
+           cpu.next, kl_widest(&cpu, owners, n, writers, n));
     for (uint32_t c = 0; c < cpu.next; c++) print_compartment(c);
     if (answer == KL_DONE) return 3;
     return answer == KL_HALT ? 0 : 1;

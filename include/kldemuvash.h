@@ -47,8 +47,9 @@
 extern "C" {
 #endif
 
-/* Grows by one where a declaration of this header is added or changes: 1 the base, 2 sources, 3 strict mode, 4 kl_check. */
-#define KL_VERSION 4
+/* Grows by one where a declaration of this header is added or changes: 1 the base, 2 sources, 3 strict mode, 4 kl_check,
+   5 kl_widest is lent the owners. */
+#define KL_VERSION 5
 
 /* Sizes. */
 enum {
@@ -250,9 +251,11 @@ uint32_t kl_jumps(const kl_processor *cpu, const uint64_t *jumpers, size_t jumpe
    A service has no W. A number from 64 on is in no set: 0. */
 uint32_t kl_stores(const kl_processor *cpu, const uint64_t *writers, size_t writers_len, uint32_t number);
 
-/* Counts the compartments in the largest set W of a place: how many may write to the most widely writable
-   word. 0 where no place is looked at. */
-uint32_t kl_widest(const kl_processor *cpu, const uint64_t *writers, size_t writers_len);
+/* Counts the compartments that may write to the most widely writable word: those in its set W together with its
+   owner, which counts once where it is in W; an owner from 64 on is in no set, and counts. A place is looked at where it
+   is below both lengths. 0 where no place is looked at. */
+uint32_t kl_widest(const kl_processor *cpu, const uint32_t *owners, size_t owners_len, const uint64_t *writers,
+                   size_t writers_len);
 
 #ifdef __cplusplus
 }

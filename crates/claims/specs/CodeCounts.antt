@@ -1,20 +1,19 @@
--- The counts of the code: of every outcome that their contracts allow, by value or for C, over the record and the one memory that each is lent.
+-- The counts of the code: of every outcome that their contracts allow, by value or for C, over the record and the memories that each is lent.
 use mathlib.Core.Path.{_≡_, sym, _∙_, subst}
 use mathlib.Core.Bool.{true}
 use mathlib.Core.List.{List, []}
 use Prim.Native.Nat.{ℕ, _≤_, _<_}
-use lib.ListN.{getD}
 use Rattle.paper.specs.Abstract as paper
-use Rattle.rules.specs.Compartments.{size}
 use Rattle.rules.specs.State.{State}
 use Rattle.rules.specs.Laws.Tested.{sized}
 use Rattle.rules.specs.Counts.{countFrom, ownedCount, jumpCount, storeCount, widest}
+use Rattle.rules.specs.Theorems.Widest.{writing, Met, widest-most, widest-met}
 use Rattle.rules.specs.BothMachines.Match.{Match}
 use Rattle.machine.specs.declared.Processor.{Processor}
 use Rattle.machine.specs.Views.{processorOf, stateOf}
 use Rattle.report.specs.Wholes as report
 use Rattle.report.specs.Meaning as meaning
-use Rattle.report.specs.Meaning.{past, Met}
+use Rattle.report.specs.Meaning.{past}
 use Rattle.report.proofs.owned.Reads as owned-of
 use Rattle.report.proofs.jumps.Reads as jumps-of
 use Rattle.report.proofs.stores.Reads as stores-of
@@ -22,7 +21,7 @@ use Rattle.report.proofs.widest.Reads as widest-of
 use Rattle.claims.specs.Contracts.{Promise, Allows, allowed}
 use Rattle.claims.specs.HostContracts as kl
 
--- ---- what the contracts say, of the record, the memory and the number
+-- ---- what the contracts say, of the record, the memory and the number; of the widest, the record, the owners and the sets
 
 abbrev ownedIn : Processor × List ℕ × ℕ → ℕ
 ownedIn i = ownedCount (stateOf (i .0) [] (i .1) [] [] []) (i .2)
@@ -33,18 +32,18 @@ jumpsIn i = jumpCount (stateOf (i .0) [] [] (i .1) [] []) (i .2)
 abbrev storesIn : Processor × List ℕ × ℕ → ℕ
 storesIn i = storeCount (stateOf (i .0) [] [] [] (i .1) []) (i .2)
 
-abbrev widestIn : Processor × List ℕ → ℕ
-widestIn i = widest (stateOf (i .0) [] [] [] (i .1) [])
+abbrev widestIn : Processor × List ℕ × List ℕ → ℕ
+widestIn i = widest (stateOf (i .0) [] (i .1) [] (i .2) [])
 
 pub record Counts : Type 1 where
   pub Owned : Processor × List ℕ × ℕ → ℕ → Type 0
   pub Jumps : Processor × List ℕ × ℕ → ℕ → Type 0
   pub Stores : Processor × List ℕ × ℕ → ℕ → Type 0
-  pub Widest : Processor × List ℕ → ℕ → Type 0
+  pub Widest : Processor × List ℕ × List ℕ → ℕ → Type 0
   pub owned : (i : Processor × List ℕ × ℕ) (r : ℕ) → Owned i r → r ≡ ownedIn i
   pub jumps : (i : Processor × List ℕ × ℕ) (r : ℕ) → Jumps i r → r ≡ jumpsIn i
   pub stores : (i : Processor × List ℕ × ℕ) (r : ℕ) → Stores i r → r ≡ storesIn i
-  pub widest : (i : Processor × List ℕ) (r : ℕ) → Widest i r → r ≡ widestIn i
+  pub widest : (i : Processor × List ℕ × List ℕ) (r : ℕ) → Widest i r → r ≡ widestIn i
 
 -- ---- by value: report::owned, jumps, stores, widest
 
@@ -57,8 +56,8 @@ by-jumps = record { given = λ κs a. (a .0, a .1 .0 .now, a .1 .1 .0); left = �
 abbrev pub by-stores : Promise stores-of.Post (Processor × List ℕ × ℕ) ℕ
 by-stores = record { given = λ κs a. (a .0, a .1 .0 .now, a .1 .1 .0); left = λ κs r s. r; meant = storesIn; says = λ κs a r s h. h }
 
-abbrev pub by-widest : Promise widest-of.Post (Processor × List ℕ) ℕ
-by-widest = record { given = λ κs a. (a .0, a .1 .0 .now); left = λ κs r s. r; meant = widestIn; says = λ κs a r s h. h }
+abbrev pub by-widest : Promise widest-of.Post (Processor × List ℕ × List ℕ) ℕ
+by-widest = record { given = λ κs a. (a .0, a .1 .0 .now, a .1 .1 .0 .now); left = λ κs r s. r; meant = widestIn; says = λ κs a r s h. h }
 
 abbrev pub by-value : Counts
 by-value =
@@ -84,8 +83,8 @@ by-kl-jumps = record { given = λ κs a. (a .0 .now, a .1 .0 .now, a .1 .1 .0); 
 abbrev pub by-kl-stores : Promise kl.stores (Processor × List ℕ × ℕ) ℕ
 by-kl-stores = record { given = λ κs a. (a .0 .now, a .1 .0 .now, a .1 .1 .0); left = λ κs r s. r; meant = storesIn; says = λ κs a r s h. h }
 
-abbrev pub by-kl-widest : Promise kl.widest (Processor × List ℕ) ℕ
-by-kl-widest = record { given = λ κs a. (a .0 .now, a .1 .0 .now); left = λ κs r s. r; meant = widestIn; says = λ κs a r s h. h }
+abbrev pub by-kl-widest : Promise kl.widest (Processor × List ℕ × List ℕ) ℕ
+by-kl-widest = record { given = λ κs a. (a .0 .now, a .1 .0 .now, a .1 .1 .0 .now); left = λ κs r s. r; meant = widestIn; says = λ κs a r s h. h }
 
 abbrev pub for-C : Counts
 for-C =
@@ -126,9 +125,8 @@ module _ (code : Counts) (s : State) (ok : sized s ≡ true) where
         code .stores (cpu, s .writers, c) r h ∙ sym (report.stores-whole cpu (s .writers) c (s .words) (s .owners) (s .jumpers) (s .readers)) in
         (e, e ∙ meaning.matched s a c ok m .2)
 
-  -- no W below N has more ones, and one has so many
-  pub widest-is : (r : ℕ) → code .Widest (cpu, s .writers) r → ((x : ℕ) → x < s .cpu .n → size (getD (s .writers) x 0) ≤ r) × Met (s .writers) (s .cpu .n) r
+  -- no word below N has more that may store to it, and one has so many
+  pub widest-is : (r : ℕ) → code .Widest (cpu, s .owners, s .writers) r → ((x : ℕ) → x < s .cpu .n → writing s x ≤ r) × Met s r
   widest-is r h =
-      let e : r ≡ widest s = code .widest (cpu, s .writers) r h ∙ sym (report.widest-whole cpu (s .writers) (s .words) (s .owners) (s .jumpers) (s .readers)) in
-      subst (λ (w : ℕ). ((x : ℕ) → x < s .cpu .n → size (getD (s .writers) x 0) ≤ w) × Met (s .writers) (s .cpu .n) w) (sym e)
-      (meaning.widest-most s ok, meaning.widest-met s ok)
+      let e : r ≡ widest s = code .widest (cpu, s .owners, s .writers) r h ∙ sym (report.widest-whole cpu (s .writers) (s .owners) (s .words) (s .jumpers) (s .readers)) in
+      subst (λ (w : ℕ). ((x : ℕ) → x < s .cpu .n → writing s x ≤ w) × Met s w) (sym e) (widest-most s ok, widest-met s ok)

@@ -165,10 +165,10 @@ pub extern "C" fn kl_stores(cpu: &Processor, writers: &[u64], number: u32) -> u3
     report::stores(*cpu, writers, number)
 }
 
-// The most compartments that may write to any one word below N.
+// The most compartments that may write to any one word below N, its owner counted once.
 #[no_mangle]
-pub extern "C" fn kl_widest(cpu: &Processor, writers: &[u64]) -> u32
-    ensures { λ r. ⌜ r ≡ widest (stateOf (now (cpu .entry)) [] [] [] (now (writers .entry)) []) ⌝ }
+pub extern "C" fn kl_widest(cpu: &Processor, owners: &[u32], writers: &[u64]) -> u32
+    ensures { λ r. ⌜ r ≡ widest (stateOf (now (cpu .entry)) [] (now (owners .entry)) [] (now (writers .entry)) []) ⌝ }
 {
-    report::widest(*cpu, writers)
+    report::widest(*cpu, owners, writers)
 }

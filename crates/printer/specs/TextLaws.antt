@@ -27,7 +27,7 @@ use Rattle.printer.specs.Views.{line, Meant, meantOf}
 
 -- ---- a run's text
 
-module _ (r : Ran) (owners jumpers writers : List ℕ) (wide : ℕ) (ew : wide ≡ widest (stateOf (r .cpu) [] [] [] writers [])) where
+module _ (r : Ran) (owners jumpers writers : List ℕ) (wide : ℕ) (ew : wide ≡ widest (stateOf (r .cpu) [] owners [] writers [])) where
   abbrev left : rules.Ran
   left = ranOf r [] owners jumpers writers []
 
@@ -40,7 +40,7 @@ module _ (r : Ran) (owners jumpers writers : List ℕ) (wide : ℕ) (ew : wide �
   text-is : firstLine first ++ rowLines rows ≡ text (ranOutcome left)
   unfolding text ranOutcome lineOf
   text-is =
-      let w = ew ∙ sym (widest-whole (r .cpu) writers [] owners jumpers []) in
+      let w = ew ∙ sym (widest-whole (r .cpu) writers owners [] jumpers []) in
       ap (λ (k : ℕ). firstLine (line (r .answer) (r .count) (r .cpu .pc) (r .cpu .prev) (r .cpu .jumped) (r .cpu .next) k) ++ rowLines rows) w
 
   pub ran-put : (out : List ℕ) (p : ℕ) (mid : List ℕ) (n : ℕ) (new : List ℕ) → putOf p mid ≡ put (firstLine first) 0 out
@@ -66,7 +66,7 @@ module _ (r : Ran) (words owners jumpers writers readers : List ℕ) where
   outcome-whole : ranOutcome (ranOf r [] owners jumpers writers []) ≡ ranOutcome (ranOf r words owners jumpers writers readers)
   unfolding ranOutcome lineOf
   outcome-whole =
-      let w = widest-whole (r .cpu) writers [] owners jumpers [] ∙ sym (widest-whole (r .cpu) writers words owners jumpers readers) in
+      let w = widest-whole (r .cpu) writers owners [] jumpers [] ∙ sym (widest-whole (r .cpu) writers owners words jumpers readers) in
       let rest = rows-whole 0 (r .cpu .next) in
       λ i. Outcome.ran (line (r .answer) (r .count) (r .cpu .pc) (r .cpu .prev) (r .cpu .jumped) (r .cpu .next) (w i)) (rest i)
 

@@ -66,7 +66,7 @@ fn put_ran(out: &mut [u8], r: Ran, owners: &[u32], jumpers: &[u64], writers: &[u
     ensures { λ _. ⌜ length (text (ranOutcome (ranOf r [] (now (owners .entry)) (now (jumpers .entry)) (now (writers .entry)) []))) ≤ 108 + 44 * r .cpu .next ⌝ }
 {
     let cpu = r.cpu;
-    let widest = report::widest(cpu, writers);
+    let widest = report::widest(cpu, owners, writers);
     let p = put_first(
         out,
         r.answer,

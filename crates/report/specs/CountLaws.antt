@@ -6,23 +6,18 @@ use Prim.Native.Nat.{ℕ, zero, suc, _+_, _-_, _≤_, _<_, min, max}
 use native.Mathlib.Omega.{arith}
 use native.Mathlib.Nat.{zero-add, add-zero}
 use native.Mathlib.Numerals.{add-one}
-use borrow.Author.Tests.{lt-ltb, ltb-false, eqb-true, eq-eqb, not-true, not-false}
+use borrow.Author.Tests.{lt-ltb, ltb-false, le-leb, lt-leb, not-true, not-false}
 use lib.Dec.{ltb, eqb}
 use lib.ListN.{getD, length}
-use Rattle.common.specs.Laws.Tests.{bool-ext}
 use Rattle.common.specs.Instructions.{bit}
 use Rattle.common.specs.Services.{isolate, serviceCount, isService, serviceAt}
 use Rattle.common.specs.Laws.ServiceLaws.{is-service, is-fourth}
-use Rattle.rules.specs.Compartments.{member, size}
-use Rattle.rules.specs.Laws.CompartmentLaws.{member-empty}
+use Rattle.rules.specs.Compartments.{member, insert, size}
+use Rattle.rules.specs.Laws.CompartmentLaws.{eqb-swap, member-empty, bit-most, size-most}
 use Rattle.rules.specs.State.{State, inMemory, hasOwner, ownerAt, jumpersAt, writersAt, owns, mayJump, mayStore}
-use Rattle.rules.specs.Counts.{countFrom, addressCount, ownedCount, jumpCount, storeCount, mostOnes}
+use Rattle.rules.specs.Counts.{countFrom, addressCount, ownedCount, jumpCount, storeCount, writerCount, mostBelow}
 
 -- ---- a count, address by address
-
-bit-most : (b : Bool) → bit b ≤ 1
-bit-most true = omega arith
-bit-most false = omega arith
 
 module _ (test : ℕ → Bool) where
   count-more : (k : ℕ) → countFrom test 0 (k + 1) ≡ countFrom test 0 k + bit (test k)
@@ -155,9 +150,6 @@ module _ (m : Bool) (n : ℕ) (a b c d : Bool) (p q r : ℕ) (ep : p ≡ bit (ou
 
 -- ---- what the calls come to
 
-eqb-swap : (a b : ℕ) → eqb a b ≡ eqb b a
-eqb-swap a b = bool-ext (eqb a b) (eqb b a) (λ h. eq-eqb b a (sym (eqb-true a b h))) (λ h. eq-eqb a b (sym (eqb-true b a h)))
-
 module _ (s : State) (c : ℕ) where
   abbrev m : Bool
   m = s .cpu .strict
@@ -215,10 +207,24 @@ module _ (s : State) (c : ℕ) where
 
 -- ---- the most widely writable word
 
-pub ones-none : (sets : List ℕ) → 0 ≡ mostOnes sets 0
-unfolding mostOnes
-ones-none sets = refl
+-- the two returns of `writer_count`, by the size that it counts
+module _ (owner set joined : ℕ) (e : joined ≡ size (insert set owner)) where
+  pub within : owner < 64 → joined ≡ writerCount owner set
+  unfolding writerCount
+  within h = e ∙ simp (lt-leb 64 owner h, add-zero)
 
-pub ones-more : (sets : List ℕ) (k : ℕ) → mostOnes sets (k + 1) ≡ max (mostOnes sets k) (size (getD sets k 0))
-unfolding mostOnes
-ones-more sets k = ap (mostOnes sets) (add-one k)
+  pub beyond : 64 ≤ owner → joined + 1 ≡ writerCount owner set
+  unfolding writerCount
+  beyond h = simp (e, le-leb 64 owner h)
+
+  -- there is room for one more
+  pub joined-most : joined ≤ 64
+  joined-most = let h = size-most 64 (insert set owner) in omega arith
+
+pub most-none : (f : ℕ → ℕ) → 0 ≡ mostBelow 0 f
+unfolding mostBelow
+most-none f = refl
+
+pub most-more : (f : ℕ → ℕ) (k : ℕ) → mostBelow (k + 1) f ≡ max (mostBelow k f) (f k)
+unfolding mostBelow
+most-more f k = ap (λ (j : ℕ). mostBelow j f) (add-one k)

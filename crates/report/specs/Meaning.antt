@@ -2,24 +2,22 @@
 use mathlib.Core.Path.{_≡_, refl, sym, ap, ap₂, _∙_}
 use mathlib.Core.Bool.{Bool, true, false, not, _&&_, and-false}
 use mathlib.Core.List.{List}
-use Prim.Native.Nat.{ℕ, zero, suc, _+_, _-_, _≤_, _<_, min, max}
+use Prim.Native.Nat.{ℕ, zero, suc, _+_, _-_, _≤_, _<_, min}
 use native.Mathlib.Omega.{arith}
 use native.Mathlib.Nat.{zero-add, add-zero, add-suc, add-assoc}
-use native.Mathlib.Decide.{ℕ-discrete}
-use borrow.Author.Tests.{le-ltb, ltb-true, ltb-false}
+use borrow.Author.Tests.{le-ltb}
 use lib.Dec.{ltb}
-use lib.ListN.{getD, length}
+use lib.ListN.{length}
 use Rattle.common.specs.Instructions.{bit}
 use Rattle.common.specs.Services.{isolate, serviceCount, isService}
 use Rattle.common.specs.Laws.ServiceLaws.{no-service}
 use Rattle.paper.specs.Abstract as paper
-use Rattle.rules.specs.Compartments.{size}
 use Rattle.rules.specs.Laws.CompartmentLaws.{member-empty}
 use Rattle.rules.specs.State.{State, inMemory, hasOwner, jumpersAt, writersAt, owns, mayJump, mayStore}
 use Rattle.rules.specs.Laws.Tested.{sized}
 use Rattle.rules.specs.Laws.FormLaws.{is-sized}
 use Rattle.rules.specs.BothMachines.Match.{Match}
-use Rattle.rules.specs.Counts.{countFrom, addressCount, ownedCount, jumpCount, storeCount, mostOnes, widest}
+use Rattle.rules.specs.Counts.{countFrom, addressCount, ownedCount, jumpCount, storeCount}
 use Rattle.report.specs.CountLaws.{count-same}
 
 -- the first address past the services
@@ -127,50 +125,3 @@ matched s a c h m =
   where
     same : {t u : ℕ → Bool} → ((x : ℕ) → t x ≡ u x) → countFrom u 0 (past (s .cpu .strict)) ≡ countFrom t 0 (past (s .cpu .strict))
     same {t} {u} e = count-same u t 0 (past (s .cpu .strict)) (λ x l k. sym (e x))
-
--- ---- the most widely writable word
-
-ones-at : (sets : List ℕ) (k x : ℕ) → x < k → size (getD sets x 0) ≤ mostOnes sets k
-unfolding mostOnes
-ones-at sets zero x h = absurd (omega arith)
-ones-at sets (suc k) x h = go (ℕ-discrete x k) (ones-at sets k x)
-  where
-    go : Dec (x ≡ k) → (x < k → size (getD sets x 0) ≤ mostOnes sets k) → size (getD sets x 0) ≤ max (mostOnes sets k) (size (getD sets k 0))
-    go (yes e) ih = let f : size (getD sets x 0) ≡ size (getD sets k 0) = ap (λ (y : ℕ). size (getD sets y 0)) e in omega arith
-    go (no e) ih = let i = ih (omega arith) in omega arith
-
--- a place whose W has that many
-pub record Met (sets : List ℕ) (k most : ℕ) : Type 0 where
-  pub place : ℕ
-  pub below : place < k
-  pub ones : size (getD sets place 0) ≡ most
-
-ones-met : (sets : List ℕ) (k : ℕ) → Met sets (suc k) (mostOnes sets (suc k))
-unfolding mostOnes
-ones-met sets zero = record { place = 0; below = omega arith; ones = omega arith }
-ones-met sets (suc k) = go (ltb (mostOnes sets (suc k)) (size (getD sets (suc k) 0))) refl (ones-met sets k)
-  where
-    go : (b : Bool) → ltb (mostOnes sets (suc k)) (size (getD sets (suc k) 0)) ≡ b → Met sets (suc k) (mostOnes sets (suc k))
-        → Met sets (suc (suc k)) (max (mostOnes sets (suc k)) (size (getD sets (suc k) 0)))
-    go true e m = let l : mostOnes sets (suc k) < size (getD sets (suc k) 0) = ltb-true _ _ e in record { place = suc k; below = omega arith; ones = omega arith }
-    go false e m = let l : size (getD sets (suc k) 0) ≤ mostOnes sets (suc k) = ltb-false _ _ e in record { place = m .place; below = omega arith; ones = omega arith }
-
-pub widest-most : (s : State) → sized s ≡ true → (x : ℕ) → x < s .cpu .n → size (getD (s .writers) x 0) ≤ widest s
-unfolding widest
-widest-most s h x k =
-    let z = is-sized s h in
-    let l : s .cpu .n ≤ length (s .words) = z .lent .enough in
-    let w : length (s .writers) ≡ length (s .words) = z .lent .writers in
-    ones-at (s .writers) (min (s .cpu .n) (length (s .writers))) x (omega arith)
-
-pub widest-met : (s : State) → sized s ≡ true → Met (s .writers) (s .cpu .n) (widest s)
-unfolding widest
-widest-met s h =
-    let z = is-sized s h in
-    let f : 1 ≤ s .cpu .n = z .some in
-    let l : s .cpu .n ≤ length (s .words) = z .lent .enough in
-    let w : length (s .writers) ≡ length (s .words) = z .lent .writers in
-    let e : min (s .cpu .n) (length (s .writers)) ≡ suc (s .cpu .n - 1) = omega arith in
-    let m = ones-met (s .writers) (s .cpu .n - 1) in
-    let b : m .place < suc (s .cpu .n - 1) = m .below in
-    record { place = m .place; below = omega arith; ones = m .ones ∙ ap (mostOnes (s .writers)) (sym e) }

@@ -22,6 +22,6 @@ module _ (cpu : Processor) (writers : List ℕ) where
   unfolding storeCount addressCount mayStore writersAt inMemory
   stores-whole c words owners jumpers readers = refl
 
-  pub widest-whole : (words owners jumpers readers : List ℕ) → widest (stateOf cpu words owners jumpers writers readers) ≡ widest (stateOf cpu [] [] [] writers [])
+  pub widest-whole : (owners words jumpers readers : List ℕ) → widest (stateOf cpu words owners jumpers writers readers) ≡ widest (stateOf cpu [] owners [] writers [])
   unfolding widest
-  widest-whole words owners jumpers readers = refl
+  widest-whole owners words jumpers readers = refl

@@ -5,7 +5,7 @@ ghost use mathlib.Core.List.{[]};
 ghost use Prim.Native.Nat.{min};
 ghost use lib.ListN.{length};
 ghost use Rattle.common.specs.Instructions.{bit};
-ghost use Rattle.rules.specs.Counts.{ownedCount, jumpCount, storeCount, widest};
+ghost use Rattle.rules.specs.Counts.{ownedCount, jumpCount, storeCount, writerCount, widest};
 ghost use Rattle.machine.specs.Views.{stateOf};
 ghost use Rattle.report.specs.CountLaws.{placesOwned, placesWith, outside, four};
 use compartments::Set;
@@ -15,15 +15,21 @@ use modes::ADD_READ_TARGET;
 use modes::ADD_STORE_TARGET;
 use modes::ISOLATE;
 
+// The shorter of two lengths.
+fn shorter(a: usize, b: usize) -> usize
+    ensures { λ r. ⌜ r ≡ min a b ⌝ }
+{
+    if b < a {
+        return b;
+    }
+    a
+}
+
 // How many places are looked at.
 fn least(n: u32, length: usize) -> usize
     ensures { λ r. ⌜ r ≡ min n length ⌝ }
 {
-    let places = n as usize;
-    if length < places {
-        return length;
-    }
-    places
+    shorter(n as usize, length)
 }
 
 // How many places below N the number owns.
@@ -114,15 +120,26 @@ pub fn stores(cpu: Processor, writers: &[u64], number: u32) -> u32
     places_with(writers, cpu.n, number)
 }
 
-// The most compartments that may write to any one word below N.
-pub fn widest(cpu: Processor, writers: &[u64]) -> u32
-    ensures { λ r. ⌜ r ≡ widest (stateOf cpu [] [] [] (now (writers .entry)) []) ⌝ }
+// How many compartments may write to a word: its owner joins its writers; one from 64 on is in no set, and is one more.
+fn writer_count(owner: u32, writers: u64) -> u32
+    ensures { λ r. ⌜ r ≡ writerCount owner writers ⌝ }
 {
-    let places = least(cpu.n, writers.len());
+    let joined = Set(writers).insert(owner).count();
+    if owner < 64 {
+        return joined;
+    }
+    joined + 1
+}
+
+// The most compartments that may write to any one word below N, its owner counted once.
+pub fn widest(cpu: Processor, owners: &[u32], writers: &[u64]) -> u32
+    ensures { λ r. ⌜ r ≡ widest (stateOf cpu [] (now (owners .entry)) [] (now (writers .entry)) []) ⌝ }
+{
+    let places = least(cpu.n, shorter(owners.len(), writers.len()));
     let mut most: u32 = 0;
     let mut x = 0;
     while x < places {
-        let count = Set(writers[x]).count();
+        let count = writer_count(owners[x], writers[x]);
         if most < count {
             most = count;
         }

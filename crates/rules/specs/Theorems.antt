@@ -3,6 +3,7 @@ pub mod Stays
 pub mod Refusals
 pub mod Additive
 pub mod Counted
+pub mod Widest
 pub mod Unread
 pub mod Sheet
 pub mod Numbers

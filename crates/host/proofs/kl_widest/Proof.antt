@@ -20,7 +20,7 @@ pub kl-widest-spec : {M : Type 1} → statement M
 unfolding code.routine tablesOf
 kl-widest-spec 𝓤 H 𝓜 𝓖 𝓡 =
     entered 𝓤 H (tripleOf 𝓤 H (𝓖 .A) f.signature (f.spec 𝓤 H (𝓖 .A) (𝓜 .mem) (𝓡 .run))) (tables 𝓤 H 𝓜 𝓡 code.env .C) (tables 𝓤 H 𝓜 𝓡 code.env .Λ) key.name code.function (code.unfolded 𝓤 H 𝓜 𝓡)
-    (meets (λ cpu writers. widest (stateOf cpu [] [] [] writers [])) 𝓤 H (𝓖 .A)
+    (meets (λ cpu owners writers. widest (stateOf cpu [] owners [] writers [])) 𝓤 H (𝓖 .A)
     (λ κs a. f.clauses 𝓤 H (𝓖 .A) (𝓜 .mem) (𝓡 .run) κs a .ensures tt) (λ κs a r h. factI 𝓤 _ (emp 𝓤) h)
     (givenOf 𝓤 H 𝓜 𝓖) name (tablesOf 𝓤 H 𝓜 (tables 𝓤 H 𝓜 𝓡 code.env))
     (cited 𝓤 H (tripleOf 𝓤 H (𝓖 .A) beneath.signature (beneath.spec 𝓤 H (𝓖 .A) (𝓜 .mem) (𝓡 .run))) 𝓜 𝓡 code.env name routine code.calls-report·widest (met 𝓤 H 𝓜 𝓖 𝓡)))

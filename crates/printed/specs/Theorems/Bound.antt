@@ -5,21 +5,22 @@ use mathlib.Core.List.{List}
 use Prim.Native.Nat.{ℕ, zero, suc, _+_, _*_, _<_, _≤_, min}
 use native.Mathlib.Omega.{arith}
 use borrow.Author.Tests.{eqb-true, ltb-true}
-use lib.Dec.{eqb, ltb}
+use lib.Dec.{eqb, ltb, leb}
 use lib.ListN.{getD, length, length-append}
 use Rattle.common.specs.Answers as answer
 use Rattle.common.specs.Instructions.{bit}
 use Rattle.common.specs.Services.{isolate, serviceCount}
 use Rattle.common.specs.Laws.ServiceLaws.{service-count}
 use Rattle.common.specs.Laws.CheckLaws.{cond-same}
-use Rattle.rules.specs.Compartments.{member, sizeBelow}
+use Rattle.rules.specs.Compartments.{insert}
 use Rattle.common.specs.Tables.{firstOf}
 use Rattle.rules.specs.State.{State, inMemory, owns, mayJump, mayStore}
 use Rattle.rules.specs.Checks.{checks, verdict}
 use Rattle.rules.specs.Images as images
 use Rattle.rules.specs.Step.{step}
 use Rattle.rules.specs.Run.{Ran, run}
-use Rattle.rules.specs.Counts.{countFrom, addressCount, ownedCount, jumpCount, storeCount, mostOnes, widest}
+use Rattle.rules.specs.Counts.{countFrom, addressCount, ownedCount, jumpCount, storeCount, writerCount, mostBelow, widest}
+use Rattle.rules.specs.Laws.CompartmentLaws.{bit-most, size-most}
 use Rattle.rules.specs.Laws.FormLaws.{n-most}
 use Rattle.rules.specs.Laws.StepLaws.{answer-is}
 use Rattle.rules.specs.Theorems.Counted.{counted}
@@ -61,10 +62,6 @@ load-most strict input old = ltb-true (images.loadVerdict strict input old) 32 t
 
 -- ---- counts
 
-bit-most : (b : Bool) → bit b ≤ 1
-bit-most true = omega arith
-bit-most false = omega arith
-
 count-most : (test : ℕ → Bool) (x k : ℕ) → countFrom test x k ≤ k
 unfolding countFrom
 count-most test x zero = omega arith
@@ -78,15 +75,15 @@ address-most s list test h =
     let c = service-count (s .cpu .strict) in
     omega (arith, c .1)
 
-size-most : (k set : ℕ) → sizeBelow k set ≤ k
-unfolding sizeBelow
-size-most zero set = omega arith
-size-most (suc k) set = let h = size-most k set in let b = bit-most (member set k) in omega arith
+-- 64 numbers, and an owner that is none of them
+writers-most : (owner set : ℕ) → writerCount owner set ≤ 65
+unfolding writerCount
+writers-most owner set = let h = size-most 64 (insert set owner) in let b = bit-most (leb 64 owner) in omega arith
 
-ones-most : (sets : List ℕ) (k : ℕ) → mostOnes sets k ≤ 64
-unfolding mostOnes
-ones-most sets zero = omega arith
-ones-most sets (suc k) = let h = ones-most sets k in let b = size-most 64 (getD sets k 0) in omega arith
+most-most : (k : ℕ) (owners sets : List ℕ) → mostBelow k (λ x. writerCount (getD owners x 0) (getD sets x 0)) ≤ 65
+unfolding mostBelow
+most-most zero owners sets = omega arith
+most-most (suc k) owners sets = let h = most-most k owners sets in let w = writers-most (getD owners k 0) (getD sets k 0) in omega arith
 
 -- ---- lines
 
@@ -118,7 +115,7 @@ module _ (strict : Bool) (input : List ℕ) (byte : (i : ℕ) → i < length inp
         let a = answer-most budget (images.load strict input memories .state) in
         let c = counted budget (images.load strict input memories .state) .0 in
         let n = run-numbered strict input memories ok budget in
-        let w = ones-most (left .state .writers) (min (left .state .cpu .n) (length (left .state .writers))) in
+        let w = most-most (min (left .state .cpu .n) (min (length (left .state .owners)) (length (left .state .writers)))) (left .state .owners) (left .state .writers) in
         record {
           answer = omega arith;
           steps = omega arith;

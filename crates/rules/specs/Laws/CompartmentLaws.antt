@@ -1,4 +1,4 @@
--- Laws of compartment sets: who is a member after an insertion, and that joining twice changes nothing.
+-- Laws of compartment sets: who is a member after an insertion, that joining twice changes nothing, and how many members there can be.
 use mathlib.Core.Path.{_≡_, refl, sym, ap, ap₂, _∙_}
 use mathlib.Core.Bool.{Bool, true, false, cond, _&&_, _||_, or-true, or-false, and-false}
 use mathlib.Core.Logic.{_≢_}
@@ -11,10 +11,11 @@ use lib.Dec.{eqb, ltb, leb, lit<}
 use lib.Bits.{bitOr, or-shr, or-mod, or-zero-r, or-step, or-self}
 use lib.Arith.{bin-ind, digits-mod}
 use lib.Pow.{pow-pos, pow-lt, pow-add, pow-mono}
+use Rattle.common.specs.Instructions.{bit}
 use Rattle.common.specs.Services.{serviceCount, isServiceNumber}
 use Rattle.common.specs.Laws.ServiceLaws.{service-count}
 use Rattle.common.specs.Laws.Tests.{bool-ext}
-use Rattle.rules.specs.Compartments.{numbers, member, insert, empty, upTo, serviceNumbers, mainAlone}
+use Rattle.rules.specs.Compartments.{numbers, member, insert, empty, upTo, serviceNumbers, mainAlone, sizeBelow}
 
 -- ---- bits of a sum of bits
 
@@ -45,6 +46,9 @@ or-one (suc zero) h = refl
 or-one (suc (suc x)) h = absurd (not-suc-le-zero (le-of-suc-le-suc (le-of-suc-le-suc h)))
 
 -- ---- membership
+
+pub eqb-swap : (a b : ℕ) → eqb a b ≡ eqb b a
+eqb-swap a b = bool-ext (eqb a b) (eqb b a) (λ h. eq-eqb b a (sym (eqb-true a b h))) (λ h. eq-eqb a b (sym (eqb-true b a h)))
 
 pub member-empty : (c : ℕ) → member empty c ≡ false
 unfolding member
@@ -119,3 +123,14 @@ member-services m c = let k = service-count m in member-up-to (serviceCount m) c
 pub member-main : (c : ℕ) → member mainAlone c ≡ eqb c 0
 unfolding mainAlone
 member-main c = simp (member-insert empty 0 c (lit< tt), member-empty c)
+
+-- ---- how many
+
+pub bit-most : (b : Bool) → bit b ≤ 1
+bit-most true = omega arith
+bit-most false = omega arith
+
+pub size-most : (k set : ℕ) → sizeBelow k set ≤ k
+unfolding sizeBelow
+size-most zero set = omega arith
+size-most (suc k) set = let h = size-most k set in let b = bit-most (member set k) in omega arith
