@@ -1,0 +1,2 @@
+-- The folder Examples: texts by computation.
+pub mod Samples

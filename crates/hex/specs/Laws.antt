@@ -1,0 +1,1 @@
+-- The folder Laws: lines, digits, records and memories.

@@ -1,0 +1,1 @@
+-- The folder Theorems: each answer exactly, and both directions together.
