@@ -51,7 +51,7 @@ abbrev pub recordsIn : List ℕ → ℕ
 recordsIn words = (length words + 3) / 4
 
 unfoldable pub textOf : List ℕ → List ℕ
-textOf words = records (allBytes words) 0 (recordsIn words) ++ endRecord ++ feed ∷ []
+textOf words = records (allBytes words) 0 (recordsIn words) ++ (endRecord ++ feed ∷ [])
 
 -- ---- "export 21, then 31"
 

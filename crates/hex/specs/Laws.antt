@@ -1,1 +1,5 @@
--- The folder Laws: lines, digits, records and memories.
+-- The folder Laws: lists of bytes, pairs of digits, records that were written, and memories.
+pub mod Bounds
+pub mod Pairs
+pub mod Written
+pub mod Memories

@@ -35,7 +35,7 @@ address s r = 65536 * s .base + offset r
 
 -- some byte has an address beyond the memory: the last, if there is one, has the highest
 unfoldable pub beyond : ℕ → ℕ → Bool
-beyond at n = not (eqb n 0) && ltb room (at + n)
+beyond at n = ltb room (at + n) && not (eqb n 0)
 
 unfoldable pub anyGiven : List ℕ → Bool
 anyGiven [] = false

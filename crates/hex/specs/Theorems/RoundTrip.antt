@@ -1,0 +1,42 @@
+-- "Importing an export gives the same words back", with the caller's registers and entry.
+use mathlib.Core.Path.{_≡_, refl, ap, _∙_}
+use mathlib.Core.Bool.{true, _&&_, not}
+use mathlib.Core.List.{List}
+use Prim.Native.Nat.{ℕ, _*_, _%_, _^_, _≤_, _<_}
+use native.Mathlib.Omega.{arith}
+use borrow.Author.Tests.{le-leb, lt-ltb, eq-eqb, ne-eqb}
+use lib.ListN.{getD, length, take, drop}
+use lib.Seq.{take-append-seam}
+use Rattle.common.specs.Answers as answer
+use Rattle.common.specs.Tables.{firstOf}
+use Rattle.rules.specs.Images.{imageBytes, over, Written}
+use Rattle.hex.specs.Importing.{past, wordsOf, endChecks, endVerdict, accepted, import}
+use Rattle.hex.specs.Exporting.{textOf, exportChecks, exportVerdict, export}
+use Rattle.hex.specs.Theorems.ReadBack.{memoryOf, text-says, past-is, words-are}
+
+-- the text, and beyond it what the buffer held
+pub exported : (words out : List ℕ) → 1 ≤ length words → length words ≤ 2048 → length (textOf words) ≤ length out
+    → export words out ≡ record { answer = answer.done; length = length (textOf words); out = over (textOf words) out }
+unfolding export exportVerdict exportChecks firstOf
+exported words out l m r = simp (le-leb 1 (length words) l, le-leb (length words) 2048 m, le-leb (length (textOf words)) (length out) r)
+
+module _ (words regs : List ℕ) (entry : ℕ) (out : List ℕ) (least : 1 ≤ length words) (most : length words ≤ 2048)
+    (small : (i : ℕ) → i < length words → getD words i 0 < 2 ^ 32) (below : entry < length words) (fits : length (imageBytes words regs entry) ≤ length out) where
+  text-imported : import (textOf words) regs entry out ≡ accepted words regs entry out
+  unfolding import endVerdict endChecks firstOf
+  text-imported =
+      let p = past-is words most in
+      let some : past (memoryOf words most) ≡ 0 → ⊥ = λ e. omega arith in
+      let fours : past (memoryOf words most) % 4 ≡ 0 = omega arith in
+      simp (text-says words most, ne-eqb (past (memoryOf words most)) 0 some, fours, words-are words most small, lt-ltb entry (length words) below, le-leb (length (imageBytes words regs entry)) (length out) fits)
+
+  -- for every 1 to 2,048 words, every registers, every entry below N, and buffers long enough
+  pub imported-back : (text : List ℕ) → length (textOf words) ≤ length text
+      → (export words text .answer ≡ answer.done) × (import (take (export words text .length) (export words text .out)) regs entry out ≡ accepted words regs entry out)
+  imported-back text room =
+      let e = exported words text least most room in (
+        ap (λ (w : Written). w .answer) e,
+        ap (λ (w : Written). import (take (w .length) (w .out)) regs entry out) e
+            ∙ ap (λ (t : List ℕ). import t regs entry out) (take-append-seam (textOf words) (drop (length (textOf words)) text))
+            ∙ text-imported,
+      )
