@@ -2,3 +2,4 @@
 pub mod ReadBack
 pub mod RoundTrip
 pub mod Numbers
+pub mod Accepted

@@ -51,7 +51,7 @@ abbrev saidIn : Reading → Said
 saidIn (says s) = s
 saidIn (refused n k) = nothing
 
-says-not : {C : Type 0} (s : Said) (n k : ℕ) → says s ≡ refused n k → C
+pub says-not : {C : Type 0} (s : Said) (n k : ℕ) → says s ≡ refused n k → C
 says-not s n k e = absurd (subst Refuses (sym e) tt)
 
 -- ---- refused exactly there
