@@ -4,12 +4,6 @@ use borrow.Author.Needs.{needs}
 use Rattle.printer.proofs.print.Statement.{statement}
 use Rattle.printer.proofs.print.Tie as tie
 
-slice-aggregate-make : tie.Need-slice-aggregate-make
-slice-aggregate-make c = search needs
-
-make-requires : tie.Need-make-requires
-make-requires c κs = search needs
-
 returns : tie.Need-returns
 returns c = no-room _ _ _ _ _ (c .before .before .make .ensures .0) (c .before .before .make .ensures .1) _ (c .if1 .taken)
 
@@ -19,12 +13,6 @@ array-share-prefix-made c = made-length _ _ _ _ _ (c .before .before .before .ma
 slice-aggregate-put-text : tie.Need-slice-aggregate-put-text
 slice-aggregate-put-text c = made-count _ _ _ _ _ (c .before .before .before .before .make .ensures .0) (c .before .before .before .before .make .ensures .1)
 
-put-text-requires : tie.Need-put-text-requires
-put-text-requires c κs = search needs
-
-same-length : tie.Need-same-length
-same-length c = search needs
-
 returns-2 : tie.Need-returns-2
 returns-2 c = has-room _ _ _ _ _ (c .before .before .before .before .before .before .before .make .ensures .0) (c .before .before .before .before .before .before .before .make .ensures .1) _ (c .before .before .before .before .before .if1 .left) _ _ (c .before .before .put-text .ensures)
 
@@ -32,11 +20,11 @@ pub print-spec : {M : Type 1} → statement M
 print-spec =
     tie.close
     (tie.spec
-    slice-aggregate-make
-    make-requires
+    (λ c. search needs)
+    (λ c κs. search needs)
     returns
     array-share-prefix-made
     slice-aggregate-put-text
-    put-text-requires
-    same-length
+    (λ c κs. search needs)
+    (λ c. search needs)
     returns-2)

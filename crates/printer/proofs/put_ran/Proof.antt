@@ -5,21 +5,12 @@ use borrow.Author.Needs.{needs}
 use Rattle.printer.proofs.put_ran.Statement.{statement}
 use Rattle.printer.proofs.put_ran.Tie as tie
 
-widest-requires : tie.Need-widest-requires
-widest-requires c κs = search needs
-
-put-first-requires : tie.Need-put-first-requires
-put-first-requires c κs = search needs
-
 put-rows-requires : tie.Need-put-rows-requires
 put-rows-requires c κs = put-within _ _ _ _ _ (c .before .before .before .put-first .ensures .0)
-
-same-length : tie.Need-same-length
-same-length c = search needs
 
 returns : tie.Need-returns
 returns c = (ran-put _ _ _ _ _ (c .before .before .before .before .before .before .before .before .widest .ensures) _ _ _ _ _ (c .before .before .before .before .before .before .put-first .ensures .0) (c .before .before .put-rows .ensures .0), ran-length _ _ _ _ _ (c .before .before .before .before .before .before .before .before .widest .ensures) (c .before .before .before .before .before .before .put-first .ensures .1) (c .before .before .put-rows .ensures .1))
 
 pub put-ran-spec : {M : Type 1} → statement M
 put-ran-spec =
-    tie.close (tie.spec widest-requires put-first-requires put-rows-requires same-length returns)
+    tie.close (tie.spec (λ c κs. search needs) (λ c κs. search needs) put-rows-requires (λ c. search needs) returns)
