@@ -1,5 +1,5 @@
 -- The image of what a text says, with the caller's registers and entry.
-use mathlib.Core.Bool.{Bool, cond, not}
+use mathlib.Core.Bool.{cond, not}
 use mathlib.Core.List.{List, [], _∷_, map}
 use Prim.Native.Nat.{ℕ, suc, _/_, _%_}
 use lib.Dec.{leb, ltb, eqb}

@@ -1,9 +1,9 @@
 -- What a text says so far, and what its next record says: the bytes by their addresses, or the first record at fault with its number.
-use mathlib.Core.Bool.{Bool, true, false, cond, _&&_, _||_, not}
+use mathlib.Core.Bool.{Bool, false, cond, _&&_, _||_, not}
 use mathlib.Core.List.{List, [], _∷_}
 use Prim.Native.Nat.{ℕ, suc, _+_, _*_}
 use lib.Dec.{ltb, eqb}
-use lib.ListN.{length, take, drop, replicate}
+use lib.ListN.{take, drop, replicate}
 use lib.Seq.{sets}
 use Rattle.common.specs.Answers as answer
 use Rattle.common.specs.Tables.{Check, on, firstOf}

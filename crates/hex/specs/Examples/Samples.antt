@@ -8,7 +8,7 @@ use Rattle.common.specs.Tables.{firstOf}
 use Rattle.rules.specs.Images.{field, fields, allBytes, section, listed, imageBytes}
 use Rattle.numerals.specs.Bytes.{bytes}
 use Rattle.hex.specs.Records.{lines, body, digitOf, allDigits, octet, octets, sum, formed, wrongCount, sumsUp, known}
-use Rattle.hex.specs.Reading.{beyond, anyGiven, recordChecks, recordVerdict, withRecord, Said, Reading, says, refused, from, reading}
+use Rattle.hex.specs.Reading.{beyond, anyGiven, recordChecks, recordVerdict, withRecord, Reading, says, refused, from, reading}
 use Rattle.hex.specs.Importing.{past, wordsOf, endChecks, endVerdict, Imported, refusal, import}
 use Rattle.hex.specs.Exporting.{pairs, dataRecord, endRecord, records, textOf, exportChecks, exportVerdict, export}
 

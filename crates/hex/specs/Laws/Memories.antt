@@ -2,12 +2,12 @@
 use mathlib.Core.Path.{_≡_, refl, sym, ap, _∙_}
 use mathlib.Core.Bool.{Bool, true, false, cond, _||_}
 use mathlib.Core.List.{List, [], _∷_, _++_, map}
-use Prim.Native.Nat.{ℕ, zero, suc, _+_, _*_, _/_, _%_, _≤_, _<_}
+use Prim.Native.Nat.{ℕ, zero, suc, _+_, _/_, _%_, _≤_, _<_}
 use native.Mathlib.Nat.{div-div-eq-div-mul, div-add-mod, mod-eq-of-lt}
 use native.Mathlib.Omega.{arith}
 use borrow.Author.Tests.{lt-ltb, ne-eqb}
 use lib.Dec.{ltb, eqb}
-use lib.ListN.{getD, length, set, take, drop, replicate}
+use lib.ListN.{length, set, take, drop, replicate}
 use lib.Seq.{sets, drop-set-lt, getD-append-add}
 use Rattle.common.specs.Laws.Tests.{clash}
 use Rattle.rules.specs.Images.{field, fields, fourBytes, allBytes}

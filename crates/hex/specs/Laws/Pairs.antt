@@ -1,16 +1,16 @@
 -- Pairs of digits that were written are read as the bytes they say; and a line that was written is one line.
-use mathlib.Core.Path.{_≡_, refl, sym, ap, _∙_}
-use mathlib.Core.Bool.{Bool, true, false, _&&_}
+use mathlib.Core.Path.{_≡_, refl, ap, _∙_}
+use mathlib.Core.Bool.{Bool, true, false}
 use mathlib.Core.List.{List, [], _∷_, _++_}
 use Prim.Native.Nat.{ℕ, zero, suc, _+_, _-_, _*_, _/_, _%_, _≤_, _<_}
 use native.Mathlib.Omega.{arith}
-use borrow.Author.Tests.{lt-ltb, le-ltb, le-leb, lt-leb, ltb-true, ltb-false, ne-eqb}
+use borrow.Author.Tests.{lt-ltb, le-leb, lt-leb, ltb-true, ltb-false, ne-eqb}
 use lib.Dec.{ltb}
 use lib.ListN.{getD, length, take, drop}
 use lib.Seq.{drop-cons}
 use Rattle.numerals.specs.Bytes.{feed}
 use Rattle.numerals.specs.Numerals.{glyph}
-use Rattle.hex.specs.Records.{Line, line, onto, lines, return, body, digitOf, allDigits, octet, octets}
+use Rattle.hex.specs.Records.{line, onto, lines, return, body, digitOf, allDigits, octet, octets}
 use Rattle.hex.specs.Exporting.{pairs}
 use Rattle.hex.specs.Laws.Bounds.{Below, From, from-at}
 

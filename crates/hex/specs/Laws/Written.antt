@@ -1,16 +1,16 @@
 -- A record that was written: its parts, that it passes 60 and 61, and what is said with it.
-use mathlib.Core.Path.{_≡_, refl, sym, ap, _∙_}
-use mathlib.Core.Bool.{true, false, _&&_, _||_, not}
+use mathlib.Core.Path.{_≡_, sym, ap, _∙_}
+use mathlib.Core.Bool.{true}
 use mathlib.Core.List.{List, [], _∷_, _++_}
-use Prim.Native.Nat.{ℕ, _+_, _-_, _*_, _/_, _%_, _≤_, _<_}
+use Prim.Native.Nat.{ℕ, _+_, _*_, _%_, _<_}
 use native.Mathlib.Nat.{zero-add}
 use native.Mathlib.Omega.{arith}
-use borrow.Author.Tests.{eq-eqb, ne-eqb, le-ltb}
-use lib.ListN.{getD, length, take, drop, length-append}
+use borrow.Author.Tests.{eq-eqb}
+use lib.ListN.{length, length-append}
 use lib.Seq.{take-all, take-append-seam}
 use Rattle.numerals.specs.Bytes.{feed}
 use Rattle.hex.specs.Records.{line, lines, body, colon, octets, count, offset, type, dataOf, sum, formed, sumsUp}
-use Rattle.hex.specs.Exporting.{pairs, checksum, fieldsOf, recordOf}
+use Rattle.hex.specs.Exporting.{checksum, fieldsOf, recordOf}
 use Rattle.hex.specs.Laws.Bounds.{Below, below-append, From}
 use Rattle.hex.specs.Laws.Pairs.{one-line, whole-body, length-pairs, pairs-from, pairs-digits, octet-at, octets-at}
 

@@ -1,17 +1,17 @@
 -- An imported image is one that the loader accepts, with the words that the text says and the caller's registers and entry.
-use mathlib.Core.Path.{_≡_, refl, sym, ap, _∙_, subst}
-use mathlib.Core.Bool.{Bool, true, false, cond, not}
+use mathlib.Core.Path.{_≡_, refl, sym, ap, _∙_}
+use mathlib.Core.Bool.{Bool, true, false, cond}
 use mathlib.Core.List.{List, [], _∷_, map}
-use Prim.Native.Nat.{ℕ, zero, suc, _+_, _*_, _/_, _%_, _^_, _≤_, _<_}
+use Prim.Native.Nat.{ℕ, suc, _+_, _*_, _/_, _%_, _^_, _≤_, _<_}
 use native.Mathlib.Omega.{arith}
 use borrow.Author.Tests.{not-false, ltb-true, leb-true, eqb-true, eqb-false}
-use lib.Dec.{ltb, leb, eqb}
-use lib.ListN.{getD, length, take, replicate, length-replicate, List·getD-map}
+use lib.Dec.{ltb, eqb}
+use lib.ListN.{getD, length, take, length-replicate, List·getD-map}
 use lib.Seq.{sets, length-sets}
 use Rattle.common.specs.Answers as answer
 use Rattle.common.specs.Tables.{NoneHolds}
 use Rattle.rules.specs.State.{State}
-use Rattle.rules.specs.Images.{field, imageBytes, Written, loaded, load}
+use Rattle.rules.specs.Images.{field, imageBytes, loaded, load}
 use Rattle.images.specs.Filling.{length-fields, getD-fields}
 use Rattle.images.specs.Sections.{written}
 use Rattle.images.specs.RoundTrip.{read-again}

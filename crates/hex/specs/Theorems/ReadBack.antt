@@ -1,13 +1,12 @@
 -- The text of words says these words: each record passes every check behind those before it, and the bytes stand at their addresses.
 use mathlib.Core.Path.{_≡_, refl, sym, ap, _∙_}
-use mathlib.Core.Bool.{Bool, true, false, _&&_, _||_, not}
+use mathlib.Core.Bool.{Bool, true, false}
 use mathlib.Core.List.{List, [], _∷_, _++_, append-assoc, map}
-use Prim.Native.Nat.{ℕ, zero, suc, _+_, _-_, _*_, _/_, _%_, _^_, _≤_, _<_, min}
+use Prim.Native.Nat.{ℕ, zero, suc, _+_, _*_, _/_, _^_, _≤_, _<_}
 use native.Mathlib.Nat.{add-zero}
 use native.Mathlib.Omega.{arith}
-use borrow.Author.Tests.{eq-eqb, ne-eqb, le-ltb}
-use lib.Dec.{eqb, ltb}
-use lib.ListN.{getD, length, take, drop, replicate, length-append, length-take, length-drop, length-replicate}
+use borrow.Author.Tests.{le-ltb}
+use lib.ListN.{getD, length, take, drop, replicate, length-take, length-replicate}
 use lib.Seq.{sets, take-add, take-all, length-take-le}
 use Rattle.common.specs.Answers as answer
 use Rattle.common.specs.Tables.{firstOf}
@@ -15,8 +14,8 @@ use Rattle.numerals.specs.Bytes.{feed}
 use Rattle.rules.specs.Images.{allBytes, fields, over}
 use Rattle.images.specs.Sections.{length-all-bytes}
 use Rattle.images.specs.Stores.{sets-then, sets-over}
-use Rattle.hex.specs.Records.{Line, line, lines, body, count, offset, type, dataOf, data-type, end-type, wrongCount, known}
-use Rattle.hex.specs.Reading.{room, none, Said, nothing, address, beyond, anyGiven, given, recordChecks, recordVerdict, withRecord, Reading, says, from, reading}
+use Rattle.hex.specs.Records.{line, lines, offset, data-type, end-type, wrongCount, known}
+use Rattle.hex.specs.Reading.{room, none, Said, address, beyond, given, recordChecks, recordVerdict, withRecord, says, from, reading}
 use Rattle.hex.specs.Importing.{past, filled, wordsOf}
 use Rattle.hex.specs.Exporting.{fieldsOf, recordOf, dataRecord, endRecord, chunk, records, recordsIn, textOf}
 use Rattle.hex.specs.Laws.Bounds.{Below, below-take, below-drop, below-of}

@@ -1,16 +1,15 @@
 -- "Importing an export gives the same words back", with the caller's registers and entry.
-use mathlib.Core.Path.{_≡_, refl, ap, _∙_}
-use mathlib.Core.Bool.{true, _&&_, not}
+use mathlib.Core.Path.{_≡_, ap, _∙_}
 use mathlib.Core.List.{List}
-use Prim.Native.Nat.{ℕ, _*_, _%_, _^_, _≤_, _<_}
+use Prim.Native.Nat.{ℕ, _%_, _^_, _≤_, _<_}
 use native.Mathlib.Omega.{arith}
-use borrow.Author.Tests.{le-leb, lt-ltb, eq-eqb, ne-eqb}
+use borrow.Author.Tests.{le-leb, lt-ltb, ne-eqb}
 use lib.ListN.{getD, length, take, drop}
 use lib.Seq.{take-append-seam}
 use Rattle.common.specs.Answers as answer
 use Rattle.common.specs.Tables.{firstOf}
 use Rattle.rules.specs.Images.{imageBytes, over, Written}
-use Rattle.hex.specs.Importing.{past, wordsOf, endChecks, endVerdict, accepted, import}
+use Rattle.hex.specs.Importing.{past, endChecks, endVerdict, accepted, import}
 use Rattle.hex.specs.Exporting.{textOf, exportChecks, exportVerdict, export}
 use Rattle.hex.specs.Theorems.ReadBack.{memoryOf, text-says, past-is, words-are}
 
