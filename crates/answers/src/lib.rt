@@ -32,7 +32,11 @@ pub const BAD_FORM: u32 = 14;
 
 pub const BAD_OWNER: u32 = 15;
 
+pub const STRAY_BIT: u32 = 16;
+
 pub const LOAD_FORBIDDEN: u32 = 17;
+
+pub const BAD_ROWS: u32 = 18;
 
 // The loader; the writer has BAD_SIZE and BAD_ENTRY too.
 pub const NOT_WHOLE: u32 = 20;
@@ -70,3 +74,23 @@ pub const VALUE_OUTSIDE: u32 = 53;
 pub const TOO_DEEP: u32 = 54;
 
 pub const MANY_WORDS: u32 = 55;
+
+// Intel HEX, of a record; an import has BAD_ENTRY and SHORT_BUFFER too, an export BAD_SIZE and SHORT_BUFFER.
+pub const BAD_RECORD: u32 = 60;
+
+pub const BAD_SUM: u32 = 61;
+
+pub const OTHER_TYPE: u32 = 62;
+
+pub const BEYOND_MEMORY: u32 = 63;
+
+pub const BYTE_TWICE: u32 = 64;
+
+pub const AFTER_END: u32 = 66;
+
+// Intel HEX, at the end.
+pub const NO_END: u32 = 65;
+
+pub const PART_WORD: u32 = 67;
+
+pub const NO_DATA: u32 = 68;

@@ -67,9 +67,17 @@ bad-form = 14
 abbrev pub bad-owner : ℕ
 bad-owner = 15
 
+-- the word has one of the fourteen opcodes, with a bit set that it does not use; also the decoder's own refusal
+abbrev pub stray-bit : ℕ
+stray-bit = 16
+
 -- strict mode: a Load from a word that the instruction's owner neither owns nor may read
 abbrev pub load-forbidden : ℕ
 load-forbidden = 17
+
+-- the table of rows does not have 64 of them; the loader has it too
+abbrev pub bad-rows : ℕ
+bad-rows = 18
 
 -- ---- the loader; the writer has bad-size and bad-entry too
 
@@ -144,3 +152,43 @@ too-deep = 54
 -- more than 2,048 words
 abbrev pub many-words : ℕ
 many-words = 55
+
+-- ---- Intel HEX, of a record; an import has bad-entry and short-buffer too, an export bad-size and short-buffer
+
+-- a bad character or length, also a line without its LF, data in type 01, other than two bytes in type 04
+abbrev pub bad-record : ℕ
+bad-record = 60
+
+-- the checksum
+abbrev pub bad-sum : ℕ
+bad-sum = 61
+
+-- a record type other than 00, 01 and 04
+abbrev pub other-type : ℕ
+other-type = 62
+
+-- an address beyond 2,048 words
+abbrev pub beyond-memory : ℕ
+beyond-memory = 63
+
+-- a byte given twice
+abbrev pub byte-twice : ℕ
+byte-twice = 64
+
+-- anything after the end record
+abbrev pub after-end : ℕ
+after-end = 66
+
+-- ---- Intel HEX, at the end
+
+-- no end record
+abbrev pub no-end : ℕ
+no-end = 65
+
+-- one past the highest byte address is not a multiple of four
+abbrev pub part-word : ℕ
+part-word = 67
+
+-- no data
+abbrev pub no-data : ℕ
+no-data = 68

@@ -7,7 +7,6 @@ use lib.ListN.{length}
 use Rattle.common.specs.Answers as answer
 use Rattle.common.specs.Tables.{Check, on, firstOf}
 use Rattle.rules.specs.Images.{fields, imageBytes, over}
-use Rattle.hex.specs.Answers as hex
 use Rattle.hex.specs.Reading.{none, Said, Reading, says, refused, reading}
 
 -- ---- words
@@ -30,9 +29,9 @@ wordsOf memory = fields (map filled memory) 0 (past memory / 4)
 
 unfoldable pub endChecks : Said → List ℕ → ℕ → List ℕ → List Check
 endChecks s regs entry out =
-    on hex.no-end (not (s .ended))
-    ∷ on hex.no-data (eqb (past (s .memory)) 0)
-    ∷ on hex.part-word (not (eqb (past (s .memory) % 4) 0))
+    on answer.no-end (not (s .ended))
+    ∷ on answer.no-data (eqb (past (s .memory)) 0)
+    ∷ on answer.part-word (not (eqb (past (s .memory) % 4) 0))
     ∷ on answer.bad-entry (not (ltb entry (length (wordsOf (s .memory)))))
     ∷ on answer.short-buffer (not (leb (length (imageBytes (wordsOf (s .memory)) regs entry)) (length out)))
     ∷ []

@@ -1,5 +1,4 @@
 -- ---- the format, reading it and writing it: what a reader has to believe
-pub mod Answers
 pub mod Records
 pub mod Reading
 pub mod Importing

@@ -7,7 +7,6 @@ use lib.ListN.{take, drop, replicate}
 use lib.Seq.{sets}
 use Rattle.common.specs.Answers as answer
 use Rattle.common.specs.Tables.{Check, on, firstOf}
-use Rattle.hex.specs.Answers as hex
 use Rattle.hex.specs.Records.{Line, lines, body, count, offset, type, dataOf, data-type, end-type, base-type, baseOf, formed, wrongCount, sumsUp, known}
 
 -- 2,048 words in bytes
@@ -49,12 +48,12 @@ given memory at n = anyGiven (take n (drop at memory))
 -- byte given twice"
 unfoldable pub recordChecks : Said → Line → List Check
 recordChecks s l =
-    on hex.after-end (s .ended)
-    ∷ on hex.bad-record (not (l .whole) || not (formed (body (l .bytes))) || wrongCount (body (l .bytes)))
-    ∷ on hex.bad-sum (not (sumsUp (body (l .bytes))))
-    ∷ on hex.other-type (not (known (body (l .bytes))))
-    ∷ on hex.beyond-memory (eqb (type (body (l .bytes))) data-type && beyond (address s (body (l .bytes))) (count (body (l .bytes))))
-    ∷ on hex.byte-twice (eqb (type (body (l .bytes))) data-type && given (s .memory) (address s (body (l .bytes))) (count (body (l .bytes))))
+    on answer.after-end (s .ended)
+    ∷ on answer.bad-record (not (l .whole) || not (formed (body (l .bytes))) || wrongCount (body (l .bytes)))
+    ∷ on answer.bad-sum (not (sumsUp (body (l .bytes))))
+    ∷ on answer.other-type (not (known (body (l .bytes))))
+    ∷ on answer.beyond-memory (eqb (type (body (l .bytes))) data-type && beyond (address s (body (l .bytes))) (count (body (l .bytes))))
+    ∷ on answer.byte-twice (eqb (type (body (l .bytes))) data-type && given (s .memory) (address s (body (l .bytes))) (count (body (l .bytes))))
     ∷ []
 
 unfoldable pub recordVerdict : Said → Line → ℕ
