@@ -33,13 +33,19 @@ static inline bool is_instruction(uint32_t word)
     return word >> 24 < OPCODES && (word & 0xFFFFFF & ~USED[word >> 24]) == 0;
 }
 
+/* "3 is the unknown opcode, 16 the stray bit": why a word is no instruction. */
+static inline uint32_t fault(uint32_t word)
+{
+    return word >> 24 < OPCODES ? 16 : 3;
+}
+
 /* "From the top: opcode 8 bits, field a 4 bits, field b 4 bits, low 16 bits"; "decoder alone: no instruction;
    opcode and every field 0". */
 uint32_t sheet_decode(uint32_t word, uint32_t fields[4])
 {
     if (!is_instruction(word)) {
         memset(fields, 0, 4 * sizeof fields[0]);
-        return 3;
+        return fault(word);
     }
     fields[0] = word >> 24;
     fields[1] = word >> 20 & 15;
@@ -244,7 +250,7 @@ static uint32_t steps(kl_processor *cpu, memories m, uint32_t budget, uint32_t *
         const uint32_t owner = m.owners[pc], word = m.words[pc];
         if (is_service_number(strict, owner) || owner >= next) { answer = 15; break; }
         if (owner != prev && !(jumped && holds(m.jumpers[pc], prev))) { answer = 4; break; }
-        if (!is_instruction(word)) { answer = 3; break; }
+        if (!is_instruction(word)) { answer = fault(word); break; }
 
         const uint32_t a = word >> 20 & 15, b = word >> 16 & 15, low = word & 0xFFFF;
         uint32_t to = pc + 1;

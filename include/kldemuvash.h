@@ -48,8 +48,8 @@ extern "C" {
 #endif
 
 /* Grows by one where a declaration of this header is added or changes: 1 the base, 2 sources, 3 strict mode, 4 kl_check,
-   5 kl_widest is lent the owners. */
-#define KL_VERSION 5
+   5 kl_widest is lent the owners, 6 KL_STRAY_BIT beside KL_NO_INSTRUCTION. */
+#define KL_VERSION 6
 
 /* Sizes. */
 enum {
@@ -73,7 +73,7 @@ enum {
     KL_DONE = 0,             /* the step ran, the budget is used, or the call is done */
     KL_HALT = 1,             /* the instruction is Halt */
     KL_NO_PLACE = 2,         /* a stop, up to KL_NO_NUMBER: pc is neither in memory nor a service */
-    KL_NO_INSTRUCTION = 3,   /* the word is no instruction */
+    KL_NO_INSTRUCTION = 3,   /* the word has no known opcode: probably data */
     KL_NO_ARRIVAL = 4,       /* arrival is not allowed */
     KL_LOAD_OUTSIDE = 5,     /* a Load from outside memory */
     KL_STORE_OUTSIDE = 6,    /* a Store to outside memory */
@@ -86,6 +86,7 @@ enum {
     KL_NO_NUMBER = 13,       /* isolate: no compartment number is left */
     KL_BAD_FORM = 14,        /* the state is refused: lengths, n, next or prev */
     KL_BAD_OWNER = 15,       /* the state is refused: the owner of the word at pc */
+    KL_STRAY_BIT = 16,       /* a stop: a known opcode with a bit set that it does not use */
     KL_LOAD_FORBIDDEN = 17,  /* a stop, strict mode: a Load from a word that is neither its owner's nor readable by it */
     KL_NOT_WHOLE = 20,       /* the image ends inside a field */
     KL_BAD_SIZE = 21,        /* the number of words is not 1 to 2,048 */
@@ -175,15 +176,15 @@ uint32_t kl_check(const uint8_t *bytes, size_t bytes_len, uint32_t *n);
 /* Makes one step.
    Answers 0: the step ran, and the record and the memories are the state after it.
    Answers 1: the instruction is a Halt.
-   Answers 2 to 13 or 17: the step stops. 2 pc is neither in memory nor a service; 3 no instruction; 4 arrival
-   not allowed; 5 Load outside memory; 6 Store outside memory; 7 Store not allowed; 8 the words of a set of
+   Answers 2 to 13, 16 or 17: the step stops. 2 pc is neither in memory nor a service; 3 the word at pc has no
+   known opcode; 16 it has one, and a bit set that this opcode does not use; 4 arrival not allowed; 5 Load outside memory; 6 Store outside memory; 7 Store not allowed; 8 the words of a set of
    isolate (its count and its pairs) are not inside memory, or a pair has first >= past; 9 A' is empty; 10 a
    set names an address that the caller may not give, also one outside memory; 11 the caller does not own the
    target; 12 the return address is not the caller's; 13 no compartment is left; 17 Load not allowed.
    Answers 14: the first four memories differ in length, n is not 1 to 2,048 or is above that length, next is
    not 4 to 64, prev is not below next, or prev is 1, 2 or 3 while pc is a service.
    Answers 15: the owner of the word at pc is 1, 2, 3 or not below next.
-   The first that applies is given, in the order 14, 2, 15, 4; then at a memory word 3, and 5 and 17, 6 and 7,
+   The first that applies is given, in the order 14, 2, 15, 4; then at a memory word 3 or 16, and 5 and 17, 6 and 7,
    or 1 by its instruction; at isolate 8, 9, 10, 12, 13; at the other services 11, 12.
    In strict mode, and only there: 17 is given where the owner of a Load neither owns the word that it would
    read nor is among its readers. isolate takes a fourth set, R', at r4, after S': 8 looks at it as at the
@@ -208,8 +209,8 @@ uint32_t kl_run(kl_processor *cpu,
                 uint64_t *readers, size_t readers_len, uint32_t budget, uint32_t *count);
 
 /* Takes an instruction word apart: fields[0] opcode, [1] field a, [2] field b, [3] the low 16 bits, all
-   unsigned (a Bnz's offset as its raw 16 bits). Answers 0, or 3 where the word is no instruction; then the
-   four fields are 0. */
+   unsigned (a Bnz's offset as its raw 16 bits). Answers 0, or 3 where the opcode is above 13, whatever the
+   other bits, or 16 where a known opcode has a bit set that it does not use; then the four fields are 0. */
 uint32_t kl_decode(uint32_t word, uint32_t fields[4]);
 
 /* Puts an instruction word together. Answers 0 with the word in *word, or 30 with *word 0 where the opcode

@@ -3,10 +3,10 @@ use mathlib.Core.Path.{_≡_, sym, ap, _∙_, subst}
 use mathlib.Core.Bool.{Bool}
 use mathlib.Core.List.{List}
 use mathlib.Core.Logic.{_↔_, _⊎_}
-use Prim.Native.Nat.{ℕ, zero, suc, _≤_}
+use Prim.Native.Nat.{ℕ, zero, suc, _≤_, _<_}
 use native.Mathlib.Omega.{arith}
 use Rattle.common.specs.Words as words
-use Rattle.common.specs.Laws.WordLaws.{Allowed, Outside}
+use Rattle.common.specs.Laws.WordLaws.{Allowed, Above, Outside}
 use Rattle.rules.specs.State.{State}
 use Rattle.rules.specs.Step.{step}
 use Rattle.rules.specs.Run.{Ran, run}
@@ -122,17 +122,20 @@ module _ (code : Code) where
     is-decode : d ≡ words.decode word
     is-decode = code .decodes word d h
 
-    pub decode-answers : (d .answer ≡ 0) ⊎ (d .answer ≡ 3)
-    decode-answers = of (λ (x : words.Decoded). (x .answer ≡ 0) ⊎ (x .answer ≡ 3)) is-decode (demands.decode-answers word)
+    pub decode-answers : (d .answer ≡ 0) ⊎ ((d .answer ≡ 3) ⊎ (d .answer ≡ 16))
+    decode-answers = of (λ (x : words.Decoded). (x .answer ≡ 0) ⊎ ((x .answer ≡ 3) ⊎ (x .answer ≡ 16))) is-decode (demands.decode-answers word)
 
-    pub refused-word : d .answer ≡ 3 → d ≡ record { answer = 3; op = 0; a = 0; b = 0; low = 0 }
-    refused-word e = is-decode ∙ demands.refused-word word (sym (ap (λ (x : words.Decoded). x .answer) is-decode) ∙ e)
+    pub refused-word : (d .answer ≡ 0 → ⊥) → d ≡ record { answer = d .answer; op = 0; a = 0; b = 0; low = 0 }
+    refused-word =
+        of (λ (x : words.Decoded). (x .answer ≡ 0 → ⊥) → x ≡ record { answer = x .answer; op = 0; a = 0; b = 0; low = 0 }) is-decode (demands.refused-word word)
 
-    pub decode-numbers : ((d .answer ≡ 3) ↔ Outside (words.opOf word) (words.aOf word) (words.bOf word) (words.lowOf word))
+    pub decode-numbers : ((d .answer ≡ 3) ↔ (13 < words.opOf word))
+        × ((d .answer ≡ 16) ↔ ((words.opOf word < 14) × Above (words.opOf word) (words.aOf word) (words.bOf word) (words.lowOf word)))
         × ((d .answer ≡ 0) ↔ Allowed (words.opOf word) (words.aOf word) (words.bOf word) (words.lowOf word))
     decode-numbers =
         of (λ (x : words.Decoded).
-        ((x .answer ≡ 3) ↔ Outside (words.opOf word) (words.aOf word) (words.bOf word) (words.lowOf word))
+        ((x .answer ≡ 3) ↔ (13 < words.opOf word))
+        × ((x .answer ≡ 16) ↔ ((words.opOf word < 14) × Above (words.opOf word) (words.aOf word) (words.bOf word) (words.lowOf word)))
         × ((x .answer ≡ 0) ↔ Allowed (words.opOf word) (words.aOf word) (words.bOf word) (words.lowOf word))) is-decode (promises.decode-numbers word)
 
   module _ (op a b low : ℕ) (e : words.Encoded) (h : code .Encodes op a b low e) where

@@ -9,7 +9,7 @@ use native.Mathlib.Decide.{ℕ-discrete}
 use borrow.Author.Tests.{leb-true, eqb-true}
 use lib.Dec.{leb, eqb}
 use lib.ListN.{getD, length, take, drop}
-use Rattle.common.specs.Words.{allowed, opOf, aOf, bOf, lowOf, decode, encode}
+use Rattle.common.specs.Words.{allowed, decode, encode}
 use Rattle.common.specs.Laws.WordLaws as words
 use Rattle.common.specs.Services.{isService}
 use Rattle.common.specs.Laws.Tests.{both}
@@ -38,17 +38,18 @@ use Rattle.images.specs.RoundTrip as images
 -- No public call has a `requires`, so each is met with an answer; the contract of each is one equation with a total
 -- definition below. What remains to be said is that the answer is one of the sheet's numbers.
 
--- 0 to `top`, and in strict mode 17
+-- 0 to `top`, 16, and in strict mode 17
 abbrev pub UpTo : ℕ → Bool → ℕ → Type 0
-UpTo top m k = (k ≤ top) ⊎ ((m ≡ true) × (k ≡ 17))
+UpTo top m k = (k ≤ top) ⊎ ((k ≡ 16) ⊎ ((m ≡ true) × (k ≡ 17)))
 
 -- as a test
-up-to : (top : ℕ) (m : Bool) (k : ℕ) → (leb k top || (m && eqb k 17)) ≡ true → UpTo top m k
-up-to top m k h = go (leb k top) refl
+up-to : (top : ℕ) (m : Bool) (k : ℕ) → (leb k top || eqb k 16 || (m && eqb k 17)) ≡ true → UpTo top m k
+up-to top m k h = go (leb k top) (eqb k 16) refl refl
   where
-    go : (b : Bool) → leb k top ≡ b → UpTo top m k
-    go true e = inl (leb-true _ _ e)
-    go false e = let t = both m _ (simp e at h) in inr (t .0, eqb-true _ _ (t .1))
+    go : (b c : Bool) → leb k top ≡ b → eqb k 16 ≡ c → UpTo top m k
+    go true c e f = inl (leb-true _ _ e)
+    go false true e f = inr (inl (eqb-true _ _ f))
+    go false false e f = let t = both m _ (simp (e, f) at h) in inr (inr (t .0, eqb-true _ _ (t .1)))
 
 -- every number of a list of checks passes a test where its check holds, so a number that is given passes it
 abbrev pub every : (ℕ → Bool) → List Check → Bool
@@ -66,13 +67,13 @@ pub step-answers : (s : State) → UpTo 15 (s .cpu .strict) (step s .answer)
 unfolding checks loadForbidden
 step-answers s = go (ℕ-discrete (step s .answer) 0)
   where
-    all : (b : Bool) → s .cpu .strict ≡ b → every (λ k. leb k 15 || (s .cpu .strict && eqb k 17)) (checks s) ≡ true
+    all : (b : Bool) → s .cpu .strict ≡ b → every (λ k. leb k 15 || eqb k 16 || (s .cpu .strict && eqb k 17)) (checks s) ≡ true
     all true e = simp (e, or-true)
     all false e = simp (e, or-true, and-false)
 
     go : Dec (step s .answer ≡ 0) → UpTo 15 (s .cpu .strict) (step s .answer)
     go (yes e) = inl (omega arith)
-    go (no e) = up-to 15 (s .cpu .strict) _ (given (λ k. leb k 15 || (s .cpu .strict && eqb k 17)) (checks s) _ (all (s .cpu .strict) refl) (step-number s (step s .answer) e .0 refl))
+    go (no e) = up-to 15 (s .cpu .strict) _ (given (λ k. leb k 15 || eqb k 16 || (s .cpu .strict && eqb k 17)) (checks s) _ (all (s .cpu .strict) refl) (step-number s (step s .answer) e .0 refl))
 
 -- any state and any budget
 pub run-answers : (budget : ℕ) (s : State) → UpTo 15 (s .cpu .strict) (run budget s .answer)
@@ -99,13 +100,13 @@ load-answers m bytes old = go (ℕ-discrete (load m bytes old .answer) 0)
         inr (leb-true _ _ (t .0), leb-true _ _ (t .1))
 
 -- any word, and any four numbers
-pub decode-answers : (word : ℕ) → (decode word .answer ≡ 0) ⊎ (decode word .answer ≡ 3)
-unfolding decode
-decode-answers word = go (allowed (opOf word) (aOf word) (bOf word) (lowOf word)) refl
+pub decode-answers : (word : ℕ) → (decode word .answer ≡ 0) ⊎ ((decode word .answer ≡ 3) ⊎ (decode word .answer ≡ 16))
+decode-answers word = go (words.decode-answers word)
   where
-    go : (b : Bool) → allowed (opOf word) (aOf word) (bOf word) (lowOf word) ≡ b → (decode word .answer ≡ 0) ⊎ (decode word .answer ≡ 3)
-    go true e = inl (simp e)
-    go false e = inr (simp e)
+    go : words.Decodes (decode word .answer) → (decode word .answer ≡ 0) ⊎ ((decode word .answer ≡ 3) ⊎ (decode word .answer ≡ 16))
+    go (words.runs e) = inl e
+    go (words.unknown-opcode e) = inr (inl e)
+    go (words.stray e) = inr (inr e)
 
 pub encode-answers : (op a b low : ℕ) → (encode op a b low .answer ≡ 0) ⊎ (encode op a b low .answer ≡ 30)
 unfolding encode
@@ -178,7 +179,7 @@ pub refused-write : (words regs : List ℕ) (entry : ℕ) (out : List ℕ) → (
     → write words regs entry out ≡ record { answer = write words regs entry out .answer; length = 0; out = out }
 refused-write = refusals.write-refused
 
-pub refused-word : (word : ℕ) → decode word .answer ≡ 3 → decode word ≡ record { answer = 3; op = 0; a = 0; b = 0; low = 0 }
+pub refused-word : (word : ℕ) → (decode word .answer ≡ 0 → ⊥) → decode word ≡ record { answer = decode word .answer; op = 0; a = 0; b = 0; low = 0 }
 refused-word = words.decode-refused
 
 pub refused-fields : (op a b low : ℕ) → encode op a b low .answer ≡ 30 → encode op a b low ≡ record { answer = 30; word = 0 }

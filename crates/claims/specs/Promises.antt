@@ -3,13 +3,13 @@ use mathlib.Core.Path.{_≡_}
 use mathlib.Core.Bool.{Bool, true, false, cond, _&&_, not}
 use mathlib.Core.List.{List, [], _∷_}
 use mathlib.Core.Logic.{_↔_}
-use Prim.Native.Nat.{ℕ, suc, _+_, _*_, _≤_}
+use Prim.Native.Nat.{ℕ, suc, _+_, _*_, _≤_, _<_}
 use lib.Dec.{ltb, leb, eqb}
 use lib.ListN.{length}
 use Rattle.common.specs.Opcodes as is
 use Rattle.common.specs.Words.{instruction, none, opOf, aOf, bOf, lowOf, decode, encode}
 use Rattle.common.specs.Laws.WordLaws as words
-use Rattle.common.specs.Laws.WordLaws.{Allowed, Outside}
+use Rattle.common.specs.Laws.WordLaws.{Allowed, Above, Outside}
 use Rattle.common.specs.Instructions.{forward, back, offset, reg}
 use Rattle.common.specs.AddressSets.{isEmpty, inSet}
 use Rattle.rules.specs.State.{State}
@@ -40,12 +40,12 @@ p-lines = lines
 -- the same eight rows spelled out. At s w: w is at pc, and 14, 2, 15 and 4 pass; Called s: pc is at isolate, and 14, 4, 8,
 -- 9 and 10 pass
 pub p-lines-spelled :
-    ((decode 0x01200007 ≡ instruction is.const 2 0 7) × (decode 0x00000007 ≡ none))
+    ((decode 0x01200007 ≡ instruction is.const 2 0 7) × (decode 0x00000007 ≡ none 16))
     × ((decode 0x0C10FFFF ≡ instruction is.bnz 1 0 0xFFFF) × (offset 0xFFFF ≡ back 1)
     × (decode 0x0C107FFF ≡ instruction is.bnz 1 0 0x7FFF) × (offset 0x7FFF ≡ forward 32767)
     × (decode 0x0C108000 ≡ instruction is.bnz 1 0 0x8000) × (offset 0x8000 ≡ back 32768))
-    × ((decode 0x0D000000 ≡ instruction is.halt 0 0 0) × (decode 0x0E000000 ≡ none))
-    × ((decode 0x03120003 ≡ instruction is.add 1 2 3) × (decode 0x03120013 ≡ none))
+    × ((decode 0x0D000000 ≡ instruction is.halt 0 0 0) × (decode 0x0E000000 ≡ none 3))
+    × ((decode 0x03120003 ≡ instruction is.add 1 2 3) × (decode 0x03120013 ≡ none 16))
     × ((s : State) → length (s .cpu .regs) ≡ 16 → reg (s .cpu .regs) 1 ≡ 4294967295 → reg (s .cpu .regs) 2 ≡ 1
     → (At s 0x03120003 → (step s .answer ≡ 0) × (reg (step s .state .cpu .regs) 3 ≡ 0))
     × (At s 0x07120003 → (step s .answer ≡ 0) × (reg (step s .state .cpu .regs) 3 ≡ 0)))
@@ -71,6 +71,7 @@ pub step-number : (s : State) (k : ℕ) → (k ≡ 0 → ⊥)
     ∷ on 15 (of.wrongOwner s)
     ∷ on 4 (of.noArrival s)
     ∷ on 3 (of.noInstruction s)
+    ∷ on 16 (of.strayBit s)
     ∷ on 5 (of.loadOutside s)
     ∷ on 17 (of.loadForbidden s)
     ∷ on 6 (of.storeOutside s)
@@ -130,12 +131,13 @@ write-number = image-numbers.write-number
 pub write-done : (words regs : List ℕ) (entry : ℕ) (out : List ℕ) → (write words regs entry out .answer ≡ 0) ↔ NoneHolds (writeChecks words regs entry out)
 write-done = image-numbers.write-done
 
--- Outside: the opcode is above 13, or a field is above the largest value that its row of the table has, 0 where it is unused;
--- Allowed: neither
+-- Above: a field is above the largest value that its row of the table has, 0 where it is unused: a bit is set that the opcode does not use;
+-- Outside: that, or the opcode is above 13; Allowed: neither
 pub decode-numbers : (word : ℕ)
-    → ((decode word .answer ≡ 3) ↔ Outside (opOf word) (aOf word) (bOf word) (lowOf word))
+    → ((decode word .answer ≡ 3) ↔ (13 < opOf word))
+    × ((decode word .answer ≡ 16) ↔ ((opOf word < 14) × Above (opOf word) (aOf word) (bOf word) (lowOf word)))
     × ((decode word .answer ≡ 0) ↔ Allowed (opOf word) (aOf word) (bOf word) (lowOf word))
-decode-numbers word = (words.decode-3 word, words.decode-0 word)
+decode-numbers word = (words.decode-3 word, words.decode-16 word, words.decode-0 word)
 
 pub encode-numbers : (op a b low : ℕ)
     → ((encode op a b low .answer ≡ 30) ↔ Outside op a b low) × ((encode op a b low .answer ≡ 0) ↔ Allowed op a b low)

@@ -1,7 +1,7 @@
 -- The answers: each number of the sheet has one name, here and in the code (crate `answers`).
 use Prim.Native.Nat.{ℕ}
 
--- ---- a step or a run: 0 and 1 end well, 2 to 13 and 17 are stops, 14 and 15 refuse the state
+-- ---- a step or a run: 0 and 1 end well, 2 to 13, 16 and 17 are stops, 14 and 15 refuse the state
 
 -- the step ran, the budget is used, or the call is done
 abbrev pub done : ℕ
@@ -15,7 +15,7 @@ halt = 1
 abbrev pub no-place : ℕ
 no-place = 2
 
--- the word is no instruction; also the decoder's own refusal
+-- the word has none of the fourteen opcodes; also the decoder's own refusal
 abbrev pub no-instruction : ℕ
 no-instruction = 3
 

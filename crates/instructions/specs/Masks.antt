@@ -8,6 +8,7 @@ use borrow.Author.Tests.{leb-true, eqb-true, lt-ltb, le-ltb, le-leb, eq-eqb}
 use lib.Bits.{bitAnd, and-mask, and-block, and-le-l}
 use lib.Dec.{leb, eqb}
 use lib.Pow.{pow-pos}
+use Rattle.common.specs.Answers as answer
 use Rattle.common.specs.Laws.Tests.{both, bool-ext}
 use Rattle.common.specs.Words.{row, allowed, opOf, aOf, bOf, lowOf, Decoded, instruction, none, decode}
 use Rattle.common.specs.Laws.WordLaws.{nibble, half-word, row-full, row-high, row-small}
@@ -104,14 +105,14 @@ module _ (word k : ℕ) (h : opOf word ≡ k) (l : k < 14) where
   unfolding decode
   decode-fields e = simp (← asked, e)
 
-  pub decode-none : fitsIn word k ≡ false → decode word ≡ none
+  pub decode-stray : fitsIn word k ≡ false → decode word ≡ none answer.stray-bit
   unfolding decode
-  decode-none e = simp (← asked, e)
+  decode-stray e = simp (← asked, e, lt-ltb (opOf word) 14 (omega arith))
 
 pub op-high : (word : ℕ) → 14 ≤ opOf word → false ≡ allowed (opOf word) (aOf word) (bOf word) (lowOf word)
 unfolding allowed
 op-high word h = simp (le-ltb (opOf word) 14 h)
 
-pub decode-high : (word : ℕ) → 14 ≤ opOf word → decode word ≡ none
+pub decode-high : (word : ℕ) → 14 ≤ opOf word → decode word ≡ none answer.no-instruction
 unfolding decode
-decode-high word h = simp (← op-high word h)
+decode-high word h = simp (← op-high word h, le-ltb (opOf word) 14 h)

@@ -1,6 +1,6 @@
 // Instruction words both ways, by one table of fourteen rows.
 ghost use mathlib.Core.Path.{_≡_};
-ghost use Rattle.common.specs.Words.{allowed, opOf, aOf, bOf, lowOf, pack, decode, encode};
+ghost use Rattle.common.specs.Words.{allowed, opOf, aOf, bOf, lowOf, pack, fault, decode, encode};
 ghost use Rattle.instructions.specs.Masks.{usedOf, fitsIn, fieldsOf};
 ghost use Rattle.instructions.specs.Packing.{hasRoom, Room};
 ghost use Rattle.instructions.specs.Views.{decoded, standing, encoded};
@@ -32,7 +32,7 @@ const USED: [u32; 14] = [
     0, // 13 Halt
 ];
 
-// A word's opcode and fields with answer 0, or answer 3 and zeros.
+// A word's opcode and fields with answer 0, or answer 3 or 16 and zeros.
 pub struct Decoded {
     pub answer: u32,
     pub op: u32,
@@ -125,13 +125,23 @@ fn has_room(op: u32, a: u32, b: u32, low: u32) -> bool
     low < 65536
 }
 
+// Why a word of this opcode is no instruction; asked only of a word that is none.
+fn fault(op: u32) -> u32
+    ensures { λ r. ⌜ r ≡ fault op ⌝ }
+{
+    if op < 14 {
+        return answers::STRAY_BIT;
+    }
+    answers::NO_INSTRUCTION
+}
+
 // Takes a word apart; any word.
 pub fn decode(word: u32) -> Decoded
     ensures { λ r. ⌜ decoded r ≡ decode word ⌝ }
 {
     if !is_instruction(word) {
         return Decoded {
-            answer: answers::NO_INSTRUCTION,
+            answer: fault(word / 16777216),
             op: 0,
             a: 0,
             b: 0,

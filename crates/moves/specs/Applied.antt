@@ -305,7 +305,7 @@ module _ (s : State) (w : formed s ≡ true) (k : s .cpu .pc < s .cpu .n) (hn : 
           let d = decoded-small (getD (s .words) (s .cpu .pc) 0) in
           let r = rd-small (getD (s .words) (s .cpu .pc) 0) (eqb-true (i .answer) answer.done e) in
           simp e (applies s owner i (d .1) (d .2) r hn (owner-small f) op-known (simp e at z))
-      go false e z = let q : _≡_ {A = ℕ} 3 0 = simp e at z in absurd (omega arith)
+      go false e z = absurd (eqb-false (i .answer) answer.done e (simp e at z))
 
   -- the whole of it: the answer, and the state
   move-answers : moveAt s .answer ≡ verdict s

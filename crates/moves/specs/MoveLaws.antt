@@ -6,7 +6,7 @@ use mathlib.Core.Logic.{_≢_}
 use Prim.Native.Nat.{ℕ, _%_, _≤_, _<_}
 use native.Mathlib.Omega.{arith}
 use borrow.Author.Tests.{ltb-true, ltb-false, le-leb, eq-eqb, ne-eqb, not-true, not-false}
-use lib.Dec.{ltb}
+use lib.Dec.{ltb, eqb}
 use lib.ListN.{getD}
 use Rattle.common.specs.Answers as answer
 use Rattle.common.specs.Laws.Tests.{NoneOf, past}
@@ -17,7 +17,7 @@ use Rattle.rules.specs.Compartments.{member}
 use Rattle.rights.specs.Rights.{free}
 use Rattle.rights.specs.Arrivals as at
 use Rattle.instructions.specs.declared.Standing.{Standing}
-use Rattle.instructions.specs.Masks.{fitsIn, fieldsOf, decode-fields, decode-none, decode-high}
+use Rattle.instructions.specs.Masks.{fitsIn, fieldsOf, decode-fields, decode-stray, decode-high}
 use Rattle.instructions.specs.Views.{standing}
 use Rattle.moves.specs.declared.Move.{Move}
 use Rattle.moves.specs.Moves as is
@@ -106,9 +106,9 @@ module _ (regs : List ℕ) (pc owner : ℕ) (strict : Bool) (n : ℕ) (words own
   unfolding is.wordMove
   taken d h = simp h
 
-  refused : is.stop answer.no-instruction owner ≡ move no-word
+  refused : (k : ℕ) → eqb k answer.done ≡ false → is.stop k owner ≡ move (no-word k)
   unfolding is.wordMove
-  refused = refl
+  refused k h = simp h
 
 -- i has the word's fields as they stand
 module _ (word : ℕ) (i : Standing) (ei : standing i ≡ fieldsOf word) where
@@ -143,8 +143,8 @@ module _ (word : ℕ) (i : Standing) (ei : standing i ≡ fieldsOf word) where
           → m ≡ is.wordMove (decode word) regs pc owner strict n words owners writers readers
       fits h e = e ∙ taken regs pc owner strict n words owners writers readers (standing i) (ap (λ (d : Decoded). d .answer) ei) ∙ ap (move regs pc owner strict n words owners writers readers) (whole h)
 
-      pub none : t ≡ false → m ≡ is.stop answer.no-instruction owner → m ≡ is.wordMove (decode word) regs pc owner strict n words owners writers readers
-      none h e = e ∙ refused regs pc owner strict n words owners writers readers ∙ ap (move regs pc owner strict n words owners writers readers) (sym (decode-none word k (sym is-op ∙ ek) l (sym et ∙ h)))
+      pub stray : t ≡ false → m ≡ is.stop answer.stray-bit owner → m ≡ is.wordMove (decode word) regs pc owner strict n words owners writers readers
+      stray h e = e ∙ refused regs pc owner strict n words owners writers readers answer.stray-bit refl ∙ ap (move regs pc owner strict n words owners writers readers) (sym (decode-stray word k (sym is-op ∙ ek) l (sym et ∙ h)))
 
   -- no arm
   pub high : (3 ≤ opOf word → opOf word < 8 → ⊥) → NoneOf 3 (i .op) → i .op ≢ 8 → i .op ≢ 9 → i .op ≢ 10 → i .op ≢ 11 → i .op ≢ 12 → i .op ≢ 13
@@ -153,7 +153,7 @@ module _ (word : ℕ) (i : Standing) (ei : standing i ≡ fieldsOf word) where
   high f k a b c d u v regs pc owner strict n words owners writers readers m e =
       let o = is-op in
       let h : 14 ≤ i .op = no-arm (i .op) (λ x y. f (omega arith) (omega arith)) k a b c d u v in
-      e ∙ refused regs pc owner strict n words owners writers readers ∙ ap (move regs pc owner strict n words owners writers readers) (sym (decode-high word (omega arith)))
+      e ∙ refused regs pc owner strict n words owners writers readers answer.no-instruction refl ∙ ap (move regs pc owner strict n words owners writers readers) (sym (decode-high word (omega arith)))
 
 -- ---- the instruction at pc: the two stops before it, the three ways to come to it
 module _ (arrival : ℕ) (regs : List ℕ) (pc next : ℕ) (strict : Bool) (n : ℕ) (words owners jumpers writers readers : List ℕ) (owner : ℕ) (eo : owner ≡ getD owners pc 0) (home : Bool) (eh : home ≡ at.home arrival owner) where

@@ -81,10 +81,10 @@ instructionMove i regs pc owner strict n words owners writers readers =
     (cond (eqb (i .op) is.bnz) (bnzMove owner on pc (i .low) x)
     (cond (eqb (i .op) is.halt) (stop answer.halt owner) (goes owner on)))))))))
 
--- 3, then the instruction
+-- 3 and 16, the decoder's own, then the instruction
 unfoldable pub wordMove : Decoded → List ℕ → ℕ → ℕ → Bool → ℕ → List ℕ → List ℕ → List ℕ → List ℕ → Move
 wordMove i regs pc owner strict n words owners writers readers =
-    cond (eqb (i .answer) answer.done) (instructionMove i regs pc owner strict n words owners writers readers) (stop answer.no-instruction owner)
+    cond (eqb (i .answer) answer.done) (instructionMove i regs pc owner strict n words owners writers readers) (stop (i .answer) owner)
 
 -- at a memory word: 15, 4, then the word
 unfoldable pub moveOf : List ℕ → ℕ → ℕ → Bool → ℕ → Bool → ℕ → List ℕ → List ℕ → List ℕ → List ℕ → List ℕ → Move

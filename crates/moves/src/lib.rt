@@ -165,14 +165,15 @@ fn bnz_move(owner: u32, pc: u32, low: u32, x: u32) -> Move
     goes(owner, arithmetic::branch_target(pc, low))
 }
 
-// 3.
-fn none(owner: u32) -> Move
-    ensures { λ r. ⌜ r ≡ is.stop answer.no-instruction owner ⌝ }
+// 16.
+fn stray(owner: u32) -> Move
+    ensures { λ r. ⌜ r ≡ is.stop answer.stray-bit owner ⌝ }
 {
-    stop(answers::NO_INSTRUCTION, owner)
+    stop(answers::STRAY_BIT, owner)
 }
 
-// A word that is none of the arithmetic ones. Each arm asks for its own row of the table, which is then a constant.
+// A word that is none of the arithmetic ones. Each arm asks for its own row of the table, which is then a constant; so an arm's own
+// refusal is 16, and 3 is what no arm takes.
 fn other(
     word: u32,
     regs: &[u32; 16],
@@ -194,17 +195,17 @@ fn other(
         0 => if instructions::fits(word, 0) {
             goes(owner, after(pc))
         } else {
-            none(owner)
+            stray(owner)
         },
         1 => if instructions::fits(word, 1) {
             puts(owner, after(pc), i.a, i.low)
         } else {
-            none(owner)
+            stray(owner)
         },
         2 => if instructions::fits(word, 2) {
             puts(owner, after(pc), i.b, reg(regs, i.a))
         } else {
-            none(owner)
+            stray(owner)
         },
         8 => if instructions::fits(word, 8) {
             load_move(
@@ -219,7 +220,7 @@ fn other(
                 readers,
             )
         } else {
-            none(owner)
+            stray(owner)
         },
         9 => if instructions::fits(word, 9) {
             store_move(
@@ -232,33 +233,33 @@ fn other(
                 writers,
             )
         } else {
-            none(owner)
+            stray(owner)
         },
         10 => if instructions::fits(word, 10) {
             leaps(owner, reg(regs, i.a), NO_REGISTER, 0)
         } else {
-            none(owner)
+            stray(owner)
         },
         11 => if instructions::fits(word, 11) {
             leaps(owner, reg(regs, i.a), 15, after(pc))
         } else {
-            none(owner)
+            stray(owner)
         },
         12 => if instructions::fits(word, 12) {
             bnz_move(owner, pc, i.low, reg(regs, i.a))
         } else {
-            none(owner)
+            stray(owner)
         },
         13 => if instructions::fits(word, 13) {
             stop(answers::HALT, owner)
         } else {
-            none(owner)
+            stray(owner)
         },
-        _ => none(owner),
+        _ => stop(answers::NO_INSTRUCTION, owner),
     }
 }
 
-// 3, or the instruction of an owner at pc.
+// 3, 16, or the instruction of an owner at pc.
 fn execute(
     word: u32,
     regs: &[u32; 16],
@@ -284,7 +285,7 @@ fn execute(
                 arithmetic::arith(op, reg(regs, i.a), reg(regs, i.b)),
             )
         } else {
-            none(owner)
+            stray(owner)
         },
         _ => other(
             word,
@@ -301,7 +302,7 @@ fn execute(
     }
 }
 
-// At a memory word: 15, 4, 3, then the instruction. A word of the compartment that just ran, and came here without a jump, is asked
+// At a memory word: 15, 4, 3 and 16, then the instruction. A word of the compartment that just ran, and came here without a jump, is asked
 // neither for 15 nor for 4.
 pub fn decide(
     regs: &[u32; 16],

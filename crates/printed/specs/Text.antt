@@ -28,7 +28,7 @@ pub record Line : Type 0 where
   pub next : ℕ
   pub widest : ℕ
 
--- "answer 3 steps 3 pc 3 prev 0 jumped 0 next 4 widest 1"; "`jumped` is 1 or 0"
+-- "answer 16 steps 3 pc 3 prev 0 jumped 0 next 4 widest 1"; "`jumped` is 1 or 0"
 unfoldable pub firstLine : Line → List ℕ
 firstLine l =
     field (bytes "answer ") (l .answer) ++ field (bytes " steps ") (l .steps) ++ field (bytes " pc ") (l .pc) ++ field (bytes " prev ") (l .prev)

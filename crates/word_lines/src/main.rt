@@ -120,7 +120,9 @@ fn show_lines() {
     show_decoded(0x0C107FFF);
     show_decoded(0x0C108000);
     show_decoded(0x0D000000);
+    show_decoded(0x0D000001);
     show_decoded(0x0E000000);
+    show_decoded(0xFFFFFFFF);
     show_decoded(0x03120003);
     show_decoded(0x03120013);
 }

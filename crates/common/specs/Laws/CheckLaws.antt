@@ -3,7 +3,7 @@ use mathlib.Core.Path.{_≡_, refl}
 use mathlib.Core.Bool.{Bool, true, false, cond}
 use Prim.Native.Nat.{ℕ, suc}
 use native.Mathlib.Omega.{arith}
-use borrow.Author.Tests.{eq-eqb}
+use borrow.Author.Tests.{eqb-true, eqb-false, eq-eqb}
 use lib.Dec.{eqb}
 use Rattle.common.specs.Laws.Tests.{clash}
 
@@ -12,6 +12,14 @@ use Rattle.common.specs.Laws.Tests.{clash}
 pub took : (b : Bool) (x k : ℕ) → cond b x (suc k) ≡ 0 → (b ≡ true) × (x ≡ 0)
 took true x k h = (refl, h)
 took false x k h = absurd (omega arith)
+
+-- the same of a test that asks whether x is 0 and else hands x on
+pub took-zero : (x y : ℕ) → cond (eqb x 0) y x ≡ 0 → (x ≡ 0) × (y ≡ 0)
+took-zero x y h = go (eqb x 0) refl h
+  where
+    go : (b : Bool) → eqb x 0 ≡ b → cond b y x ≡ 0 → (x ≡ 0) × (y ≡ 0)
+    go true e k = (eqb-true x 0 e, k)
+    go false e k = absurd (eqb-false x 0 e k)
 
 pub passed : (b : Bool) (x k : ℕ) → cond b (suc k) x ≡ 0 → (b ≡ false) × (x ≡ 0)
 passed true x k h = absurd (omega arith)

@@ -83,11 +83,12 @@ decodes word = eqb (decode word .answer) answer.done
 
 decodes-allowed : (word : ℕ) → decodes word ≡ allowed (opOf word) (aOf word) (bOf word) (lowOf word)
 unfolding decode
-decodes-allowed word = go (allowed (opOf word) (aOf word) (bOf word) (lowOf word))
+decodes-allowed word = go (allowed (opOf word) (aOf word) (bOf word) (lowOf word)) (ltb (opOf word) is.count)
   where
-    go : (b : Bool) → eqb (cond b (instruction (opOf word) (aOf word) (bOf word) (lowOf word)) none .answer) answer.done ≡ b
-    go true = refl
-    go false = refl
+    go : (b c : Bool) → eqb (cond b (instruction (opOf word) (aOf word) (bOf word) (lowOf word)) (none (cond c answer.stray-bit answer.no-instruction)) .answer) answer.done ≡ b
+    go true c = refl
+    go false true = refl
+    go false false = refl
 
 -- whether the upper 16 bits are those of an instruction, and then how many low parts go with them
 abbrev front : ℕ → Bool

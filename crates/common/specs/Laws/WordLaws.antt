@@ -5,7 +5,7 @@ use mathlib.Core.List.{List, [], _∷_}
 use mathlib.Core.Logic.{_↔_}
 use Prim.Native.Nat.{ℕ, zero, suc, _≤_, _<_}
 use native.Mathlib.Omega.{arith}
-use borrow.Author.Tests.{ltb-true, ltb-false, leb-true, leb-false, eqb-true, lt-ltb, le-leb}
+use borrow.Author.Tests.{ltb-true, ltb-false, leb-true, leb-false, eqb-true, lt-ltb, le-ltb, le-leb}
 use lib.Dec.{ltb, leb, eqb}
 use lib.ListN.{getD, List·getD-eq-default}
 use Rattle.common.specs.Answers as answer
@@ -103,12 +103,16 @@ pub allowed-is : (op a b low : ℕ) → Allowed op a b low → allowed op a b lo
 unfolding allowed
 allowed-is op a b low w = simp (lt-ltb _ _ (w .known), le-leb _ _ (w .a-most), le-leb _ _ (w .b-most), le-leb _ _ (w .low-most))
 
--- "opcode above 13, a field out of range, or an unused field not 0", the largest value of an unused field being 0
+-- "a field out of range, or an unused field not 0", the largest value of an unused field being 0: of a word, an unused bit set
+pub data Above (op a b low : ℕ) : Type 0 where
+  a-above : row op .a < a → Above op a b low
+  b-above : row op .b < b → Above op a b low
+  low-above : row op .low < low → Above op a b low
+
+-- "opcode above 13, a field out of range, or an unused field not 0"
 pub data Outside (op a b low : ℕ) : Type 0 where
   unknown : 13 < op → Outside op a b low
-  a-above : row op .a < a → Outside op a b low
-  b-above : row op .b < b → Outside op a b low
-  low-above : row op .low < low → Outside op a b low
+  above : Above op a b low → Outside op a b low
 
 is-outside : (op a b low : ℕ) → allowed op a b low ≡ false → Outside op a b low
 unfolding allowed
@@ -116,15 +120,15 @@ is-outside op a b low h = go (ltb op is.count) (leb a (row op .a)) (leb b (row o
   where
     go : (x y z : Bool) → ltb op is.count ≡ x → leb a (row op .a) ≡ y → leb b (row op .b) ≡ z → Outside op a b low
     go false y z e f g = unknown (ltb-false _ _ e)
-    go true false z e f g = a-above (leb-false _ _ f)
-    go true true false e f g = b-above (leb-false _ _ g)
-    go true true true e f g = low-above (leb-false _ _ (simp (e, f, g) at h))
+    go true false z e f g = above (a-above (leb-false _ _ f))
+    go true true false e f g = above (b-above (leb-false _ _ g))
+    go true true true e f g = above (low-above (leb-false _ _ (simp (e, f, g) at h)))
 
 outside-not : (op a b low : ℕ) → Outside op a b low → Allowed op a b low → ⊥
 outside-not op a b low (unknown h) w = let k = w .known in omega arith
-outside-not op a b low (a-above h) w = let k = w .a-most in omega arith
-outside-not op a b low (b-above h) w = let k = w .b-most in omega arith
-outside-not op a b low (low-above h) w = let k = w .low-most in omega arith
+outside-not op a b low (above (a-above h)) w = let k = w .a-most in omega arith
+outside-not op a b low (above (b-above h)) w = let k = w .b-most in omega arith
+outside-not op a b low (above (low-above h)) w = let k = w .low-most in omega arith
 
 outside-refused : (op a b low : ℕ) → Outside op a b low → allowed op a b low ≡ false
 outside-refused op a b low o = go (allowed op a b low) refl
@@ -140,13 +144,36 @@ picks {ℓ} : {A : Type ℓ} (t : Bool) (x y : A) (P : A → Type 0) → (t ≡ 
 picks true x y P f g = f refl
 picks false x y P f g = g refl
 
-pub decode-3 : (word : ℕ) → (decode word .answer ≡ answer.no-instruction) ↔ Outside (opOf word) (aOf word) (bOf word) (lowOf word)
+-- what holds of a decoded word: of an instruction, of an unknown opcode, of a stray bit
+decodes : (word : ℕ) (P : Decoded → Type 0) → (Allowed (opOf word) (aOf word) (bOf word) (lowOf word) → P (instruction (opOf word) (aOf word) (bOf word) (lowOf word)))
+    → (13 < opOf word → P (none answer.no-instruction)) → (opOf word < is.count → Above (opOf word) (aOf word) (bOf word) (lowOf word) → P (none answer.stray-bit))
+    → P (decode word)
+unfolding decode
+decodes word P f g h =
+    picks (allowed (opOf word) (aOf word) (bOf word) (lowOf word)) _ _ P (λ e. f (is-allowed _ _ _ _ e))
+    (λ e. picks (ltb (opOf word) is.count) answer.stray-bit answer.no-instruction (λ (k : ℕ). P (none k))
+    (λ l. h (ltb-true _ _ l) (stray (ltb-true _ _ l) (is-outside _ _ _ _ e))) (λ l. g (ltb-false _ _ l)))
+  where
+    stray : opOf word < is.count → Outside (opOf word) (aOf word) (bOf word) (lowOf word) → Above (opOf word) (aOf word) (bOf word) (lowOf word)
+    stray l (unknown k) = absurd (omega arith)
+    stray l (above k) = k
+
+-- "3 is the unknown opcode", whatever the other bits
+pub decode-3 : (word : ℕ) → (decode word .answer ≡ answer.no-instruction) ↔ (13 < opOf word)
 unfolding decode
 decode-3 word = (
-  picks (allowed (opOf word) (aOf word) (bOf word) (lowOf word)) (instruction (opOf word) (aOf word) (bOf word) (lowOf word)) none
-      (λ (d : Decoded). d .answer ≡ 3 → Outside (opOf word) (aOf word) (bOf word) (lowOf word))
-      (λ e h. let z : _≡_ {A = ℕ} 0 3 = h in absurd (omega arith)) (λ e h. is-outside _ _ _ _ e),
-  λ o. simp (outside-refused _ _ _ _ o),
+  decodes word (λ (d : Decoded). d .answer ≡ 3 → 13 < opOf word) (λ w h. let z : _≡_ {A = ℕ} 0 3 = h in absurd (omega arith)) (λ l h. l)
+      (λ l k h. let z : _≡_ {A = ℕ} 16 3 = h in absurd (omega arith)),
+  λ l. simp (outside-refused (opOf word) (aOf word) (bOf word) (lowOf word) (unknown l), le-ltb (opOf word) is.count l),
+)
+
+-- "16 the stray bit": a known opcode with an unused bit set
+pub decode-16 : (word : ℕ) → (decode word .answer ≡ answer.stray-bit) ↔ ((opOf word < is.count) × Above (opOf word) (aOf word) (bOf word) (lowOf word))
+unfolding decode
+decode-16 word = (
+  decodes word (λ (d : Decoded). d .answer ≡ 16 → (opOf word < is.count) × Above (opOf word) (aOf word) (bOf word) (lowOf word))
+      (λ w h. let z : _≡_ {A = ℕ} 0 16 = h in absurd (omega arith)) (λ l h. let z : _≡_ {A = ℕ} 3 16 = h in absurd (omega arith)) (λ l k h. (l, k)),
+  λ o. simp (outside-refused (opOf word) (aOf word) (bOf word) (lowOf word) (above (o .1)), lt-ltb (opOf word) is.count (o .0)),
 )
 
 pub encode-30 : (op a b low : ℕ) → (encode op a b low .answer ≡ answer.no-word) ↔ Outside op a b low
@@ -158,15 +185,23 @@ encode-30 op a b low = (
   λ o. simp (outside-refused op a b low o),
 )
 
--- a decoder that does not answer 3 answers 0, and so with the encoder's 30
+-- a decoder that answers neither 3 nor 16 answers 0, and so with the encoder's 30
 pub decode-0 : (word : ℕ) → (decode word .answer ≡ answer.done) ↔ Allowed (opOf word) (aOf word) (bOf word) (lowOf word)
 unfolding decode
 decode-0 word = (
-  picks (allowed (opOf word) (aOf word) (bOf word) (lowOf word)) (instruction (opOf word) (aOf word) (bOf word) (lowOf word)) none
-      (λ (d : Decoded). d .answer ≡ 0 → Allowed (opOf word) (aOf word) (bOf word) (lowOf word))
-      (λ e h. is-allowed _ _ _ _ e) (λ e h. let z : _≡_ {A = ℕ} 3 0 = h in absurd (omega arith)),
+  decodes word (λ (d : Decoded). d .answer ≡ 0 → Allowed (opOf word) (aOf word) (bOf word) (lowOf word)) (λ w h. w)
+      (λ l h. let z : _≡_ {A = ℕ} 3 0 = h in absurd (omega arith)) (λ l k h. let z : _≡_ {A = ℕ} 16 0 = h in absurd (omega arith)),
   λ w. simp (allowed-is _ _ _ _ w),
 )
+
+-- no other number arises
+pub data Decodes (k : ℕ) : Type 0 where
+  runs : k ≡ answer.done → Decodes k
+  unknown-opcode : k ≡ answer.no-instruction → Decodes k
+  stray : k ≡ answer.stray-bit → Decodes k
+
+pub decode-answers : (word : ℕ) → Decodes (decode word .answer)
+decode-answers word = decodes word (λ (d : Decoded). Decodes (d .answer)) (λ w. runs refl) (λ l. unknown-opcode refl) (λ l k. stray refl)
 
 pub encode-0 : (op a b low : ℕ) → (encode op a b low .answer ≡ answer.done) ↔ Allowed op a b low
 unfolding encode
@@ -177,10 +212,10 @@ encode-0 op a b low = (
   λ w. simp (allowed-is op a b low w),
 )
 
--- the two refusals, whole
-pub decode-refused : (word : ℕ) → decode word .answer ≡ answer.no-instruction → decode word ≡ none
-unfolding decode
-decode-refused word h = simp (outside-refused _ _ _ _ (decode-3 word .0 h))
+-- the refusals, whole
+pub decode-refused : (word : ℕ) → (decode word .answer ≡ answer.done → ⊥) → decode word ≡ none (decode word .answer)
+decode-refused word =
+    decodes word (λ (d : Decoded). (d .answer ≡ answer.done → ⊥) → d ≡ none (d .answer)) (λ w n. absurd (n refl)) (λ l n. refl) (λ l k n. refl)
 
 pub encode-refused : (op a b low : ℕ) → encode op a b low .answer ≡ answer.no-word → encode op a b low ≡ record { answer = answer.no-word; word = 0 }
 unfolding encode
@@ -213,10 +248,9 @@ written-again word h =
 pub decoded-small : (word : ℕ) → (decode word .op < is.count) × (decode word .a < 16) × (decode word .b < 16) × (decode word .low < 65536)
 unfolding decode
 decoded-small word =
-    picks (allowed (opOf word) (aOf word) (bOf word) (lowOf word)) (instruction (opOf word) (aOf word) (bOf word) (lowOf word)) none
-    (λ (d : Decoded). (d .op < is.count) × (d .a < 16) × (d .b < 16) × (d .low < 65536))
-    (λ e. let w = is-allowed _ _ _ _ e in (w .known, w .a-small, w .b-small, w .low-small))
-    (λ e. (omega arith, omega arith, omega arith, omega arith))
+    decodes word (λ (d : Decoded). (d .op < is.count) × (d .a < 16) × (d .b < 16) × (d .low < 65536))
+    (λ w. (w .known, w .a-small, w .b-small, w .low-small)) (λ l. (omega arith, omega arith, omega arith, omega arith))
+    (λ l k. (omega arith, omega arith, omega arith, omega arith))
 
 -- ---- the low 16 bits of an arithmetic instruction are a register
 

@@ -10,17 +10,18 @@ use lib.ListN.{length, length-set}
 use Rattle.common.specs.Answers as answer
 use Rattle.common.specs.Laws.CheckLaws.{cond-same}
 use Rattle.common.specs.Laws.InstructionLaws.{words-length}
+use Rattle.common.specs.Laws.WordLaws.{Decodes, runs, unknown-opcode, stray}
 use Rattle.common.specs.Services.{isolate, add-jump-target, add-store-target}
 use Rattle.common.specs.Laws.Tests.{clash}
 use Rattle.paper.specs.Abstract.{State, A-of, R-of, inMemory, reads, instructionAt, ranInstruction, described, isolated, jumpAdded, storeAdded, readAdded, ranService, verdict, commit, step, Ran, oneMore, ended, run}
-use Rattle.paper.specs.Laws.Tested.{storeVerdict, loadVerdict, instructionVerdict, wordVerdict, isolateVerdict, addVerdict, serviceVerdict, tested, verdict-tested}
+use Rattle.paper.specs.Laws.Tested.{storeVerdict, loadVerdict, instructionVerdict, wordVerdict, isolateVerdict, addVerdict, serviceVerdict, tested, instruction-answers, verdict-tested}
 use Rattle.paper.specs.Laws.CompLaws.{split-length}
 
 -- ---- answers
 
--- 0 to 12, and 17 where reading is fenced
+-- 0 to 12, 16, and 17 where reading is fenced
 abbrev pub given : Bool → ℕ → Bool
-given fenced v = leb v answer.no-return || (fenced && eqb v answer.load-forbidden)
+given fenced v = leb v answer.no-return || eqb v answer.stray-bit || (fenced && eqb v answer.load-forbidden)
 
 pub not-thirteen : (m : Bool) (v : ℕ) → given m v ≡ true → v ≡ 13 → ⊥
 not-thirteen true v h e = let z : given true 13 ≡ true = subst (λ (k : ℕ). given true k ≡ true) e h in clash z refl
@@ -31,16 +32,17 @@ through : (t : ℕ → Bool) (b : Bool) (x y : ℕ) → t (cond b x y) ≡ cond 
 through t true x y = refl
 through t false x y = refl
 
-passes-all : (a : State) (t : ℕ → Bool) → ((v : ℕ) → v ≤ 12 → t v ≡ true) → ((c x : ℕ) → t (loadVerdict a c x) ≡ true) → t (tested a) ≡ true
+passes-all : (a : State) (t : ℕ → Bool) → ((v : ℕ) → v ≤ 12 → t v ≡ true) → t (instructionAt a .answer) ≡ true → ((c x : ℕ) → t (loadVerdict a c x) ≡ true)
+    → t (tested a) ≡ true
 unfolding tested wordVerdict instructionVerdict storeVerdict serviceVerdict isolateVerdict addVerdict
-passes-all a t h l =
+passes-all a t h d l =
     simp (
       through t,
+      d,
       l,
       h 0 (omega arith),
       h 1 (omega arith),
       h 2 (omega arith),
-      h 3 (omega arith),
       h 4 (omega arith),
       h 6 (omega arith),
       h 7 (omega arith),
@@ -58,11 +60,16 @@ fence true true true = refl
 fence true true false = refl
 fence false true c = refl
 
+decoded : (m : Bool) (k : ℕ) → Decodes k → given m k ≡ true
+decoded m k (runs e) = simp e
+decoded m k (unknown-opcode e) = simp e
+decoded m k (stray e) = simp e
+
 pub abstract-answers : (a : State) → given (a .fenced) (verdict a) ≡ true
 unfolding loadVerdict reads
 abstract-answers a =
     subst (λ (v : ℕ). given (a .fenced) v ≡ true) (sym (verdict-tested a))
-    (passes-all a (given (a .fenced)) (λ v h. simp (le-leb v 12 h)) (λ c x. fence (a .fenced) (inMemory a x) (A-of a c x || R-of a c x)))
+    (passes-all a (given (a .fenced)) (λ v h. simp (le-leb v 12 h)) (decoded (a .fenced) (instructionAt a .answer) (instruction-answers a)) (λ c x. fence (a .fenced) (inMemory a x) (A-of a c x || R-of a c x)))
 
 -- ---- a run, one step after the other
 

@@ -4,6 +4,7 @@ use mathlib.Core.Bool.{Bool, true, false, cond, _&&_, _||_, not, or-false}
 use Prim.Native.Nat.{ℕ}
 use borrow.Author.Tests.{eqb-true}
 use lib.Dec.{eqb}
+use lib.ListN.{getD}
 use Rattle.common.specs.Answers as answer
 use Rattle.common.specs.Opcodes as is
 use Rattle.common.specs.Words.{Decoded}
@@ -12,6 +13,7 @@ use Rattle.common.specs.Services.{isolate, isService}
 use Rattle.common.specs.AddressSets.{isEmpty}
 use Rattle.common.specs.Tables.{firstOf}
 use Rattle.common.specs.Laws.Tests.{cond-not}
+use Rattle.common.specs.Laws.WordLaws.{Decodes, runs, unknown-opcode, stray, decode-answers}
 use Rattle.paper.specs.Abstract.{State, A-of, S-of, inMemory, reads, current, arrives, instructionAt, target, named, setA, goodSets, setsWithin, returns, checks, verdict}
 
 -- ---- the instructions, in compartment c
@@ -31,8 +33,9 @@ instructionVerdict a c i =
     (cond (eqb (i .op) is.store) (storeVerdict a c (target a i))
     (cond (eqb (i .op) is.halt) answer.halt answer.done))
 
+-- a word that is no instruction hands on the decoder's answer
 unfoldable pub wordVerdict : State → ℕ → Decoded → ℕ
-wordVerdict a c i = cond (eqb (i .answer) answer.done) (instructionVerdict a c i) answer.no-instruction
+wordVerdict a c i = cond (eqb (i .answer) answer.done) (instructionVerdict a c i) (i .answer)
 
 -- ---- the services, called by compartment c
 
@@ -68,17 +71,22 @@ load-alone op h = let e : op ≡ is.load = eqb-true _ _ h in (simp e, simp e)
 store-alone : (op : ℕ) → eqb op is.store ≡ true → eqb op is.halt ≡ false
 store-alone op h = let e : op ≡ is.store = eqb-true _ _ h in simp e
 
+pub instruction-answers : (a : State) → Decodes (instructionAt a .answer)
+unfolding instructionAt
+instruction-answers a = decode-answers (getD (a .words) (a .pc) 0)
+
 module _ (a : State) where
   abbrev inside : Bool
   inside = inMemory a (a .pc)
 
-  word : inside ≡ true → arrives a ≡ true → (f g h : Bool) → eqb (instructionAt a .answer) answer.done ≡ f → eqb (instructionAt a .op) is.load ≡ g
+  word : inside ≡ true → arrives a ≡ true → (g h : Bool) → Decodes (instructionAt a .answer) → eqb (instructionAt a .op) is.load ≡ g
       → eqb (instructionAt a .op) is.store ≡ h → verdict a ≡ tested a
   unfolding verdict firstOf checks tested wordVerdict instructionVerdict loadVerdict storeVerdict
-  word u v false g h p q r = simp (u, v, p)
-  word u v true true h p q r = let l = load-alone (instructionAt a .op) q in simp (cond-not, u, v, p, q, l .0, l .1)
-  word u v true false true p q r = simp (cond-not, u, v, p, q, r, store-alone (instructionAt a .op) r)
-  word u v true false false p q r = simp (u, v, p, q, r)
+  word u v g h (unknown-opcode p) q r = simp (u, v, p)
+  word u v g h (stray p) q r = simp (u, v, p)
+  word u v true h (runs p) q r = let l = load-alone (instructionAt a .op) q in simp (cond-not, u, v, p, q, l .0, l .1)
+  word u v false true (runs p) q r = simp (cond-not, u, v, p, q, r, store-alone (instructionAt a .op) r)
+  word u v false false (runs p) q r = simp (u, v, p, q, r)
 
   service : inside ≡ false → isService (a .fenced) (a .pc) ≡ true → arrives a ≡ true → (b : Bool) → eqb (a .pc) isolate ≡ b → verdict a ≡ tested a
   unfolding verdict firstOf checks tested serviceVerdict isolateVerdict addVerdict
@@ -91,7 +99,7 @@ module _ (a : State) where
     where
       go : (b c d : Bool) → inside ≡ b → isService (a .fenced) (a .pc) ≡ c → arrives a ≡ d → verdict a ≡ tested a
       go true c true u k v =
-          word u v (eqb (instructionAt a .answer) answer.done) (eqb (instructionAt a .op) is.load) (eqb (instructionAt a .op) is.store) refl refl refl
+          word u v (eqb (instructionAt a .op) is.load) (eqb (instructionAt a .op) is.store) (instruction-answers a) refl refl
       go true c false u k v = simp (u, v)
       go false true true u k v = service u k v (eqb (a .pc) isolate) refl
       go false true false u k v = simp (u, k, v)

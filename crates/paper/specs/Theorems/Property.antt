@@ -14,7 +14,7 @@ use Rattle.common.specs.Opcodes as is
 use Rattle.common.specs.Words.{Decoded}
 use Rattle.common.specs.Instructions.{reg, wordsAfter}
 use Rattle.common.specs.Services.{isolate, add-jump-target, add-store-target}
-use Rattle.common.specs.Laws.CheckLaws.{took}
+use Rattle.common.specs.Laws.CheckLaws.{took, took-zero}
 use Rattle.common.specs.Laws.Tests.{both}
 use Rattle.paper.specs.Abstract.{Comp, State, comp, A-of, J-of, S-of, R-of, inMemory, reads, current, arrives, instructionAt, target, ranInstruction, moreJ, moreS, moreR, described, isolated, jumpAdded, storeAdded, readAdded, ranService, verdict, commit, step}
 use Rattle.paper.specs.Laws.Tested.{loadVerdict, storeVerdict, instructionVerdict, wordVerdict, tested, verdict-tested}
@@ -88,7 +88,7 @@ leaves a ok h =
 store-passed : (a : State) (c : ℕ) (i : Decoded) → wordVerdict a c i ≡ answer.done → i .op ≡ is.store → (A-of a c (target a i) || S-of a c (target a i)) ≡ true
 unfolding wordVerdict instructionVerdict storeVerdict
 store-passed a c i h e =
-    let v : instructionVerdict a c i ≡ 0 = took (eqb (i .answer) 0) _ 2 h .1 in
+    let v : instructionVerdict a c i ≡ 0 = took-zero (i .answer) _ h .1 in
     let u = took (inMemory a (target a i)) _ 5 (simp e at v) in
     took (A-of a c (target a i) || S-of a c (target a i)) 0 6 (u .1) .0
 
@@ -126,7 +126,7 @@ pub reading : (a : State) → a .fenced ≡ true → verdict a ≡ answer.done �
 unfolding wordVerdict instructionVerdict loadVerdict reads
 reading a f h e o =
     let w : wordVerdict a (current a) (instructionAt a) ≡ 0 = simp e at (runs a h .rest) in
-    let v : instructionVerdict a (current a) (instructionAt a) ≡ 0 = took (eqb (instructionAt a .answer) 0) _ 2 w .1 in
+    let v : instructionVerdict a (current a) (instructionAt a) ≡ 0 = took-zero (instructionAt a .answer) _ w .1 in
     let u = took (inMemory a (target a (instructionAt a))) _ 4 (simp o at v) in
     let t = took (reads a (current a) (target a (instructionAt a))) 0 16 (u .1) in
     simp f at (t .0)

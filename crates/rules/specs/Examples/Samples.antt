@@ -86,9 +86,9 @@ pub record Stands (m : Bool) (budget : ℕ) (words : List ℕ) (here there : Lis
   pub on-tags : seen (tagged m budget (bytes words) lent) ≡ here
   pub on-sets : paperSeen (abstract m budget (bytes words)) ≡ there
 
--- answer 3 steps 3 pc 3 prev 0 jumped 0 next 4
+-- answer 16 steps 3 pc 3 prev 0 jumped 0 next 4
 abbrev three : List ℕ
-three = answer.no-instruction ∷ 3 ∷ 3 ∷ 0 ∷ 0 ∷ 4 ∷ []
+three = answer.stray-bit ∷ 3 ∷ 3 ∷ 0 ∷ 0 ∷ 4 ∷ []
 
 -- "It isolates {12}, then answers 7 with count 7 at pc 6, next 5"
 abbrev seven : List ℕ
@@ -127,7 +127,7 @@ pub record Samples : Type 0 where
   pub parts-strict : Stands true 542 image-many-strict (stands answer.no-number 541 isolate 0 1 64) (stands answer.done 542 10 1 1 65)
 
 pub samples : Samples
-unfolding seen paperSeen row allowed decode arithmetic branch pcAfter regsAfter wordsAfter jumps serviceCount isService serviceAt isServiceNumber pairsAt setAt inside ordered goodSet isEmpty inSet allFrom within member insert upTo serviceNumbers mainAlone firstNumber inMemory hasOwner ownerAt jumpersAt writersAt readersAt owns mayJump mayStore mayRead reads checks.lengthsDiffer checks.badForm checks.noPlace checks.wrongOwner checks.noArrival checks.instructionAt checks.noInstruction checks.loadOutside checks.loadForbidden checks.storeOutside checks.storeForbidden checks.halts checks.goodSets checks.badSets checks.emptySet checks.setsWithin checks.notWithin checks.notOwned checks.returns checks.noReturn checks.noNumber checks.checks checks.verdict step.ranInstruction step.mapFrom step.owned step.joined step.joinedServices step.isolated step.jumpAdded step.storeAdded step.readAdded step.ranService step.commit step.step run field fields firstOf entryChecks lastZero registerChecks imageChecks loadChecks blank loaded notLoaded loadVerdict load allBytes section listed imageBytes paper.inMemory paper.reads paper.serviceComps paper.initialComps paper.initial paper.holder paper.arrives paper.instructionAt paper.ranInstruction paper.goodSets paper.setsWithin paper.returns paper.isolated paper.jumpAdded paper.storeAdded paper.readAdded paper.ranService paper.checks paper.verdict paper.commit paper.step paper.run
+unfolding seen paperSeen row allowed decode arithmetic branch pcAfter regsAfter wordsAfter jumps serviceCount isService serviceAt isServiceNumber pairsAt setAt inside ordered goodSet isEmpty inSet allFrom within member insert upTo serviceNumbers mainAlone firstNumber inMemory hasOwner ownerAt jumpersAt writersAt readersAt owns mayJump mayStore mayRead reads checks.lengthsDiffer checks.badForm checks.noPlace checks.wrongOwner checks.noArrival checks.instructionAt checks.noInstruction checks.strayBit checks.loadOutside checks.loadForbidden checks.storeOutside checks.storeForbidden checks.halts checks.goodSets checks.badSets checks.emptySet checks.setsWithin checks.notWithin checks.notOwned checks.returns checks.noReturn checks.noNumber checks.checks checks.verdict step.ranInstruction step.mapFrom step.owned step.joined step.joinedServices step.isolated step.jumpAdded step.storeAdded step.readAdded step.ranService step.commit step.step run field fields firstOf entryChecks lastZero registerChecks imageChecks loadChecks blank loaded notLoaded loadVerdict load allBytes section listed imageBytes paper.inMemory paper.reads paper.serviceComps paper.initialComps paper.initial paper.holder paper.arrives paper.instructionAt paper.ranInstruction paper.goodSets paper.setsWithin paper.returns paper.isolated paper.jumpAdded paper.storeAdded paper.readAdded paper.ranService paper.checks paper.verdict paper.commit paper.step paper.run
 samples =
     record {
       written = refl;

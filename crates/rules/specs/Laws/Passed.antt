@@ -13,7 +13,7 @@ use Rattle.common.specs.Services.{isService, serviceAt, isServiceNumber}
 use Rattle.common.specs.Laws.ServiceLaws.{service-number}
 use Rattle.common.specs.AddressSets.{within}
 use Rattle.common.specs.Laws.Tests.{both, clash}
-use Rattle.common.specs.Laws.CheckLaws.{took, passed, needs, eqb-cond, cond-same}
+use Rattle.common.specs.Laws.CheckLaws.{took, took-zero, passed, needs, eqb-cond, cond-same}
 use Rattle.rules.specs.Compartments.{numbers}
 use Rattle.rules.specs.State.{State, inMemory, hasOwner, ownerAt, owns, mayJump, mayStore, mayRead, reads}
 use Rattle.rules.specs.Checks.{instructionAt, setA, setJ, setS, setR, verdict, goodSets, setsWithin, returns}
@@ -49,11 +49,11 @@ module _ (s : State) (c : ℕ) (i : Decoded) where
   pub load-passed : wordVerdict s c i ≡ answer.done → eqb (i .op) is.load ≡ true → Loads
   unfolding wordVerdict instructionVerdict loadVerdict
   load-passed h e =
-      let t = took (eqb (i .answer) 0) _ 2 h in
+      let t = took-zero (i .answer) _ h in
       let v : instructionVerdict s c i ≡ 0 = t .1 in
       let u = took (inMemory s (target s i)) _ 4 (simp e at v) in
       let w = took (reads s c (target s i)) 0 16 (u .1) in
-      record { decodes = eqb-true _ _ (t .0); inside = u .0; may = w .0 }
+      record { decodes = t .0; inside = u .0; may = w .0 }
 
   pub load-inside : wordVerdict s c i ≡ answer.done → eqb (i .op) is.load ≡ true → inMemory s (target s i) ≡ true
   load-inside h e = load-passed h e .inside
@@ -66,12 +66,12 @@ module _ (s : State) (c : ℕ) (i : Decoded) where
   pub store-passed : wordVerdict s c i ≡ answer.done → eqb (i .op) is.store ≡ true → Stores
   unfolding wordVerdict instructionVerdict storeVerdict
   store-passed h e =
-      let t = took (eqb (i .answer) 0) _ 2 h in
+      let t = took-zero (i .answer) _ h in
       let v : instructionVerdict s c i ≡ 0 = t .1 in
       let o : i .op ≡ is.store = eqb-true _ _ e in
       let u = took (inMemory s (target s i)) _ 5 (simp o at v) in
       let w = took (owns s c (target s i) || mayStore s c (target s i)) 0 6 (u .1) in
-      record { decodes = eqb-true _ _ (t .0); inside = u .0; may = w .0 }
+      record { decodes = t .0; inside = u .0; may = w .0 }
 
 -- ---- a service
 

@@ -46,7 +46,7 @@ badOwner s = inMemory s (s .cpu .pc) && (isServiceNumber (s .cpu .strict) (owner
 unfoldable pub arrives : State → Bool
 arrives s = eqb (ownerAt s (s .cpu .pc)) (s .cpu .prev) || (s .cpu .jumped && mayJump s (s .cpu .prev) (s .cpu .pc))
 
--- ---- 3, 5, 17, 6, 7 and 1: at a memory word, which compartment c owns
+-- ---- 3, 16, 5, 17, 6, 7 and 1: at a memory word, which compartment c owns
 
 -- the address that a Load or a Store names
 abbrev pub target : State → Decoded → ℕ
@@ -67,9 +67,9 @@ instructionVerdict s c i =
     (cond (eqb (i .op) is.store) (storeVerdict s c (target s i))
     (cond (eqb (i .op) is.halt) answer.halt answer.done))
 
--- "3 if it does not decode, then the instruction"
+-- "3 if it does not decode", or 16: the decoder's answer; "then the instruction"
 unfoldable pub wordVerdict : State → ℕ → Decoded → ℕ
-wordVerdict s c i = cond (eqb (i .answer) answer.done) (instructionVerdict s c i) answer.no-instruction
+wordVerdict s c i = cond (eqb (i .answer) answer.done) (instructionVerdict s c i) (i .answer)
 
 -- ---- 8 to 13: at a service, which compartment c called
 

@@ -11,6 +11,7 @@ use Rattle.common.specs.Opcodes as is
 use Rattle.common.specs.Instructions.{reg}
 use Rattle.common.specs.Services.{isolate, add-jump-target, add-store-target, add-read-target, serviceCount, isService}
 use Rattle.common.specs.Laws.ServiceLaws.{service-count, service-range}
+use Rattle.common.specs.Laws.WordLaws.{Decodes, runs, unknown-opcode, stray, decode-answers}
 use Rattle.common.specs.Tables.{firstOf}
 use Rattle.common.specs.Laws.Tests.{cond-not, not-and, not-or, not-leb}
 use Rattle.rules.specs.Compartments.{member, empty}
@@ -126,11 +127,15 @@ load-alone op h = let e : op ≡ is.load = eqb-true _ _ h in (simp e, simp e)
 store-alone : (op : ℕ) → eqb op is.store ≡ true → eqb op is.halt ≡ false
 store-alone op h = let e : op ≡ is.store = eqb-true _ _ h in simp e
 
+pub instruction-answers : (s : State) → Decodes (instructionAt s .answer)
+unfolding instructionAt
+instruction-answers s = decode-answers (getD (s .words) (s .cpu .pc) 0)
+
 pub verdict-tested : (s : State) → verdict s ≡ tested s
-unfolding verdict tested firstOf checks inMemory wordVerdict instructionVerdict storeVerdict loadVerdict instructionAt mayStore writersAt serviceVerdict isolateVerdict addVerdict of.noInstruction of.loadOutside of.loadForbidden of.storeOutside of.storeForbidden of.halts of.badSets of.emptySet of.notWithin of.notOwned of.noReturn of.noNumber
+unfolding verdict tested firstOf checks inMemory wordVerdict instructionVerdict storeVerdict loadVerdict instructionAt mayStore writersAt serviceVerdict isolateVerdict addVerdict of.noInstruction of.strayBit of.loadOutside of.loadForbidden of.storeOutside of.storeForbidden of.halts of.badSets of.emptySet of.notWithin of.notOwned of.noReturn of.noNumber
 verdict-tested s = go (formed s) (hasOwner s (s .cpu .pc)) (isWord s) refl refl refl
   where
-    store : formed s ≡ true → hasOwner s (s .cpu .pc) ≡ true → isWord s ≡ true → eqb (instructionAt s .answer) answer.done ≡ true → eqb (instructionAt s .op) is.load ≡ false
+    store : formed s ≡ true → hasOwner s (s .cpu .pc) ≡ true → isWord s ≡ true → instructionAt s .answer ≡ answer.done → eqb (instructionAt s .op) is.load ≡ false
         → eqb (instructionAt s .op) is.store ≡ true → (b : Bool) → ltb (named s) (s .cpu .n) ≡ b → verdict s ≡ tested s
     store p q u v w x false m = simp (cond-not, form-row, place-row, owner-row, arrival-row, p, q, u, v, w, x, m)
     store p q u v w x true m =
@@ -139,7 +144,7 @@ verdict-tested s = go (formed s) (hasOwner s (s .cpu .pc)) (isWord s) refl refl 
         let o : ownerAt s (s .cpu .pc) ≡ owner s (s .cpu .pc) = owner-word s (s .cpu .pc) u in
         simp (cond-not, form-row, place-row, owner-row, arrival-row, o, owns-word s (owner s (s .cpu .pc)) (named s) m, p, q, u, v, w, x, m, a, z .0, z .1)
 
-    load : formed s ≡ true → hasOwner s (s .cpu .pc) ≡ true → isWord s ≡ true → eqb (instructionAt s .answer) answer.done ≡ true → eqb (instructionAt s .op) is.load ≡ true
+    load : formed s ≡ true → hasOwner s (s .cpu .pc) ≡ true → isWord s ≡ true → instructionAt s .answer ≡ answer.done → eqb (instructionAt s .op) is.load ≡ true
         → (b : Bool) → ltb (named s) (s .cpu .n) ≡ b → verdict s ≡ tested s
     load p q u v w false m = simp (cond-not, form-row, place-row, owner-row, arrival-row, p, q, u, v, w, m)
     load p q u v w true m =
@@ -148,12 +153,13 @@ verdict-tested s = go (formed s) (hasOwner s (s .cpu .pc)) (isWord s) refl refl 
         let o : ownerAt s (s .cpu .pc) ≡ owner s (s .cpu .pc) = owner-word s (s .cpu .pc) u in
         simp (cond-not, form-row, place-row, owner-row, arrival-row, o, reads-word s (owner s (s .cpu .pc)) (named s) m, p, q, u, v, w, m, a .0, a .1, z .0, z .1)
 
-    word : formed s ≡ true → hasOwner s (s .cpu .pc) ≡ true → isWord s ≡ true → (f g h : Bool) → eqb (instructionAt s .answer) answer.done ≡ f
+    word : formed s ≡ true → hasOwner s (s .cpu .pc) ≡ true → isWord s ≡ true → (g h : Bool) → Decodes (instructionAt s .answer)
         → eqb (instructionAt s .op) is.load ≡ g → eqb (instructionAt s .op) is.store ≡ h → verdict s ≡ tested s
-    word p q u false g h v w x = simp (cond-not, form-row, place-row, owner-row, arrival-row, p, q, u, v)
-    word p q u true true h v w x = load p q u v w (ltb (named s) (s .cpu .n)) refl
-    word p q u true false true v w x = store p q u v w x (ltb (named s) (s .cpu .n)) refl
-    word p q u true false false v w x =
+    word p q u g h (unknown-opcode v) w x = simp (cond-not, form-row, place-row, owner-row, arrival-row, p, q, u, v)
+    word p q u g h (stray v) w x = simp (cond-not, form-row, place-row, owner-row, arrival-row, p, q, u, v)
+    word p q u true h (runs v) w x = load p q u v w (ltb (named s) (s .cpu .n)) refl
+    word p q u false true (runs v) w x = store p q u v w x (ltb (named s) (s .cpu .n)) refl
+    word p q u false false (runs v) w x =
         let z = word-place s p u in
         simp (cond-not, form-row, place-row, owner-row, arrival-row, p, q, u, v, w, x, z .0, z .1)
 
@@ -169,4 +175,4 @@ verdict-tested s = go (formed s) (hasOwner s (s .cpu .pc)) (isWord s) refl refl 
     go true false e p q u = simp (form-row, place-row, p, q)
     go true true false p q u = service p q u (at-service s (s .cpu .pc) q u) (atIsolate s) refl
     go true true true p q u =
-        word p q u (eqb (instructionAt s .answer) answer.done) (eqb (instructionAt s .op) is.load) (eqb (instructionAt s .op) is.store) refl refl refl
+        word p q u (eqb (instructionAt s .op) is.load) (eqb (instructionAt s .op) is.store) (instruction-answers s) refl refl

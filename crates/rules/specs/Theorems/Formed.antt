@@ -9,13 +9,14 @@ use Rattle.common.specs.Answers as answer
 use Rattle.common.specs.Services.{isService}
 use Rattle.common.specs.Laws.ServiceLaws.{no-service}
 use Rattle.common.specs.Laws.CheckLaws.{eqb-cond, cond-same}
+use Rattle.common.specs.Laws.WordLaws.{Decodes, runs, unknown-opcode, stray}
 use Rattle.rules.specs.State.{State, inMemory}
 use Rattle.rules.specs.Checks.{verdict}
 use Rattle.rules.specs.Laws.Tested.{numbered, seated, formed, wordVerdict, serviceVerdict, isolateVerdict, instructionVerdict, storeVerdict, loadVerdict, addVerdict, tested}
 use Rattle.rules.specs.Step.{Stepped, ranInstruction, isolated, jumpAdded, storeAdded, readAdded, step}
 use Rattle.rules.specs.Run.{run}
 use Rattle.rules.specs.Laws.FormLaws.{numbered-is, is-formed, n-most, numbers-good, service-below, at-service, good-owner}
-use Rattle.rules.specs.Laws.TestedRows.{verdict-tested}
+use Rattle.rules.specs.Laws.TestedRows.{instruction-answers, verdict-tested}
 use Rattle.rules.specs.Laws.Passed.{number-left}
 use Rattle.rules.specs.Laws.StepLaws.{answer-is, step-cases, run-keeps}
 use Rattle.rules.specs.Theorems.Stays.{ended-at}
@@ -66,7 +67,12 @@ run-formed k s f = run-keeps (λ (t : State). formed t ≡ true) step-formed k s
 -- an answer of 14 is there only where the form is bad
 bad-form-only : (s : State) → formed s ≡ true → eqb (verdict s) answer.bad-form ≡ false
 unfolding tested wordVerdict instructionVerdict storeVerdict loadVerdict serviceVerdict isolateVerdict addVerdict
-bad-form-only s h = ap (λ (v : ℕ). eqb v answer.bad-form) (verdict-tested s) ∙ simp (h, eqb-cond, cond-same)
+bad-form-only s h = ap (λ (v : ℕ). eqb v answer.bad-form) (verdict-tested s) ∙ simp (h, decoded (instruction-answers s), eqb-cond, cond-same)
+  where
+    decoded : {k : ℕ} → Decodes k → eqb k answer.bad-form ≡ false
+    decoded (runs e) = simp e
+    decoded (unknown-opcode e) = simp e
+    decoded (stray e) = simp e
 
 pub run-no-bad-form : (k : ℕ) (s : State) → formed s ≡ true → run k s .answer ≡ answer.bad-form → ⊥
 run-no-bad-form k s f h =

@@ -1,19 +1,24 @@
--- The conditions of 8 to 12 in words: what the tests on sets of pairs come to, address by address, with no list of pairs in it.
+-- The conditions of 3, 16 and 8 to 12 in words: the word's opcode and bits, and what the tests on sets of pairs come to, address by address,
+-- with no list of pairs in it.
 use mathlib.Core.Path.{_≡_, refl, sym, ap, _∙_}
 use mathlib.Core.Bool.{Bool, true, false, _&&_, _||_, not}
 use mathlib.Core.List.{[]}
 use mathlib.Core.Logic.{_↔_, _⊎_, inl, inr, ⊎-elim}
 use Prim.Native.Nat.{ℕ, _+_, _*_, _≤_, _<_}
-use borrow.Author.Tests.{eqb-true, eq-eqb}
+use borrow.Author.Tests.{ltb-true, lt-ltb, eqb-true, eq-eqb}
 use lib.Dec.{eqb}
 use lib.ListN.{getD}
+use Rattle.common.specs.Answers as answer
+use Rattle.common.specs.Opcodes as is
+use Rattle.common.specs.Words.{opOf, aOf, bOf, lowOf, decode}
+use Rattle.common.specs.Laws.WordLaws.{Above, decode-3, decode-16}
 use Rattle.common.specs.Instructions.{reg}
 use Rattle.common.specs.Services.{isolate, add-jump-target, add-store-target, add-read-target}
 use Rattle.common.specs.AddressSets.{goodSet, setAt, isEmpty, inSet, within, ordered}
 use Rattle.common.specs.Laws.Meaning.{Among, in-set-iff, within-iff, empty-iff, good-set-iff, good-ordered}
 use Rattle.common.specs.Laws.Tests.{both, clash}
 use Rattle.rules.specs.State.{State, inMemory, owns, mayJump, mayStore, mayRead, reads}
-use Rattle.rules.specs.Checks.{setA, setJ, setS, setR, goodIn, goodSets, badSets, emptySet, setsWithin, notWithin, notOwned, returns, noReturn}
+use Rattle.rules.specs.Checks.{isWord, instructionAt, noInstruction, strayBit, setA, setJ, setS, setR, goodIn, goodSets, badSets, emptySet, setsWithin, notWithin, notOwned, returns, noReturn}
 
 -- ---- tests and what they say
 
@@ -38,6 +43,31 @@ itself a = (λ h. h, λ h. h)
 
 at-iff : (x y : ℕ) → (eqb x y ≡ true) ↔ (x ≡ y)
 at-iff x y = (eqb-true x y, eq-eqb x y)
+
+-- ---- 3 and 16: "3 is the unknown opcode, 16 the stray bit"
+
+abbrev pub wordAtPc : State → ℕ
+wordAtPc s = getD (s .words) (s .cpu .pc) 0
+
+in-memory-iff : (s : State) → (isWord s ≡ true) ↔ (s .cpu .pc < s .cpu .n)
+in-memory-iff s = (ltb-true _ _, lt-ltb _ _)
+
+-- whatever its other bits
+pub no-instruction : (s : State) → (noInstruction s ≡ true) ↔ ((s .cpu .pc < s .cpu .n) × (13 < opOf (wordAtPc s)))
+unfolding noInstruction instructionAt
+no-instruction s =
+    let a = at-iff (decode (wordAtPc s) .answer) answer.no-instruction in
+    let d = decode-3 (wordAtPc s) in
+    and-iff _ _ (in-memory-iff s) (λ h. d .0 (a .0 h), λ h. a .1 (d .1 h))
+
+pub stray-bit : (s : State)
+    → (strayBit s ≡ true)
+    ↔ ((s .cpu .pc < s .cpu .n) × ((opOf (wordAtPc s) < is.count) × Above (opOf (wordAtPc s)) (aOf (wordAtPc s)) (bOf (wordAtPc s)) (lowOf (wordAtPc s))))
+unfolding strayBit instructionAt
+stray-bit s =
+    let a = at-iff (decode (wordAtPc s) .answer) answer.stray-bit in
+    let d = decode-16 (wordAtPc s) in
+    and-iff _ _ (in-memory-iff s) (λ h. d .0 (a .0 h), λ h. a .1 (d .1 h))
 
 -- ---- 8: "a set is not wholly inside memory or has first >= past"; "in strict mode an unreadable set word answers 8"
 
