@@ -61,12 +61,13 @@ static void decodes(uint32_t word, uint32_t answer, uint32_t op, uint32_t a, uin
 static void word_lines(void)
 {
     decodes(0x01200007, 0, 1, 2, 0, 7);
-    decodes(0x00000007, 3, 0, 0, 0, 0);
+    decodes(0x00000007, KL_STRAY_BIT, 0, 0, 0, 0);
     decodes(0x0C10FFFF, 0, 12, 1, 0, 0xFFFF);
     decodes(0x0D000000, 0, 13, 0, 0, 0);
-    decodes(0x0E000000, 3, 0, 0, 0, 0);
+    decodes(0x0E000000, KL_NO_INSTRUCTION, 0, 0, 0, 0);
+    decodes(0xFFFFFFFF, KL_NO_INSTRUCTION, 0, 0, 0, 0);
     decodes(0x03120003, 0, 3, 1, 2, 3);
-    decodes(0x03120013, 3, 0, 0, 0, 0);
+    decodes(0x03120013, KL_STRAY_BIT, 0, 0, 0, 0);
 }
 
 /* Sums are modulo 2^32, Leq is unsigned, and Bnz goes from pc 0 to -1, 32,767 and -32,768. */
@@ -95,7 +96,7 @@ static void image_one(bool strict)
 {
     const uint32_t words[] = {0x01100003, 0x01200007, 0x09120000, 0x0D000000}, services = service_count(strict);
     LOAD(words, strict);
-    runs("image one", 100000, 3, 3, 3);
+    runs("image one", 100000, KL_STRAY_BIT, 3, 3);
     row(0, 4, services, 0);
     for (uint32_t c = 1; c <= services; c++) row(c, 1, 4, 0);
     row(services + 1, 0, 0, 0);
