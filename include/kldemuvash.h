@@ -48,8 +48,8 @@ extern "C" {
 #endif
 
 /* Grows by one where a declaration of this header is added or changes: 1 the base, 2 sources, 3 strict mode, 4 kl_check,
-   5 kl_widest is lent the owners. */
-#define KL_VERSION 5
+   5 kl_widest is lent the owners, 6 Intel HEX. */
+#define KL_VERSION 6
 
 /* Sizes. */
 enum {
@@ -57,7 +57,8 @@ enum {
     KL_REGISTERS = 16,     /* r0 to r15 */
     KL_COMPARTMENTS = 64,  /* compartment numbers are below it */
     KL_IMAGE_MAX = 8272,   /* bytes of the longest image: enough for kl_write and kl_assemble */
-    KL_LINE_MAX = 16       /* bytes of the longest line of kl_disassemble, its LF counted */
+    KL_LINE_MAX = 16,      /* bytes of the longest line of kl_disassemble, its LF counted */
+    KL_HEX_MAX = 22540     /* bytes of the longest text of kl_export */
 };
 
 /* The addresses of the services. */
@@ -237,6 +238,14 @@ uint32_t kl_assemble(const uint8_t *text, size_t text_len, uint8_t *out, size_t 
    Answers, the first that applies: 21 the number of words is not 1 to 2,048, 31 `out` is too short; then *length is 0 and `out` is
    as it was. 16 bytes a word are enough. */
 uint32_t kl_disassemble(const uint32_t *words, size_t words_len, uint8_t *out, size_t out_len, size_t *length);
+
+/* Writes exactly `words_len` words as a text in the Intel HEX format to the front of `out`: each word as four bytes, lowest first,
+   the first at address 0, in type 00 records of 16 bytes, the last perhaps shorter, and an end record; digits in upper case, each
+   record with an LF.
+   Answers 0 with the number of bytes written in *length; `out` beyond them keeps its contents.
+   Answers, the first that applies: 21 the number of words is not 1 to 2,048, 31 `out` is too short; then *length is 0 and `out` is
+   as it was. 22,540 bytes are enough for every image. */
+uint32_t kl_export(const uint32_t *words, size_t words_len, uint8_t *out, size_t out_len, size_t *length);
 
 /* Counts the addresses that compartment `number` owns: the places whose owner it is, and its service (4096
    is 1's, 4097 is 2's, 4098 is 3's, in strict mode 4099 is 4's). In each of the four counts a place is looked at where it is below n and

@@ -1,4 +1,4 @@
-# card run, card check, card asm and card dis: a program on one file, and what came of it as a text and a status.
+# card run, card check, card asm, card dis and card export: a program on one file, and what came of it as a text and a status.
 # shellcheck shell=bash disable=SC2154
 
 sample=samples/makers.img
@@ -92,20 +92,30 @@ assemble_source() { # SOURCE [IMAGE]
     finish 0
 }
 
-disassemble_image() { # IMAGE [SOURCE]
-    takes_files dis 1 2 "an IMAGE and perhaps a SOURCE" "$@"
-    local number
+# Writes the words of IMAGE in a form that has no registers and no entry, and says so where the image has them.
+rewrite_image() { # COMMAND PROGRAM OUT FORM IMAGE [FILE]
+    local number tool=$2 form=$4
+    takes_files "$1" 1 2 "an IMAGE and perhaps a $3" "${@:5}"
+    set -- "${@:5}"
     [ "${2--}" != - ] || need_output
     find_room
     take "$1" image image "$image_most"
-    launch_on card_dis image source
+    launch_on "$tool" image text
     if read -r _ number < <(grep -x 'refused [0-9]*' "$room/said"); then refuse_image "$1" "$number"; fi
-    if grep -qx 'lost entry' "$room/said"; then say "$1 does not begin at address 0, which a source cannot say"; fi
-    if grep -qx 'lost registers' "$room/said"; then say "$1 lists registers, which a source cannot say"; fi
+    if grep -qx 'lost entry' "$room/said"; then say "$1 does not begin at address 0, which $form cannot say"; fi
+    if grep -qx 'lost registers' "$room/said"; then say "$1 lists registers, which $form cannot say"; fi
     sed -i '/^lost entry$/d; /^lost registers$/d' "$room/said"
-    if [ "$ended" -ne 0 ] || [ -s "$room/said" ]; then failed card_dis "$1"; fi
-    put source "${2--}"
+    if [ "$ended" -ne 0 ] || [ -s "$room/said" ]; then failed "$tool" "$1"; fi
+    put text "${2--}"
     finish 0
+}
+
+disassemble_image() { # IMAGE [SOURCE]
+    rewrite_image dis card_dis SOURCE "a source" "$@"
+}
+
+export_image() { # IMAGE [HEX]
+    rewrite_image export card_export HEX "Intel HEX" "$@"
 }
 
 # The one place where it is decided what a run or a check came to, as a status: the program says it as its last line on standard error,

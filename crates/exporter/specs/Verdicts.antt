@@ -1,22 +1,18 @@
 -- The exporter's returns, in the form in which the code comes to them.
 use mathlib.Core.Path.{_≡_, sym, _∙_}
-use mathlib.Core.Bool.{_&&_}
 use mathlib.Core.List.{List}
 use Prim.Native.Nat.{ℕ, _+_, _*_, _/_, _≤_, _<_}
 use native.Mathlib.Omega.{arith}
-use borrow.Author.Tests.{leb-true, le-leb, lt-leb, ne-eqb}
-use lib.Dec.{leb}
+use borrow.Author.Tests.{le-leb, lt-leb, ne-eqb}
 use lib.ListN.{length}
 use Rattle.common.specs.Answers as answer
 use Rattle.common.specs.Tables.{firstOf}
-use Rattle.common.specs.Laws.Tests.{both}
-use Rattle.images.specs.Accepted.{passed}
 use Rattle.images.specs.Stores.{sets-over}
 use Rattle.numerals.specs.Writing.{put}
 use Rattle.text.specs.Puts.{putOf, put-whole}
 use Rattle.hex.specs.Exporting.{textOf, exportChecks, exportVerdict, export}
 use Rattle.hex.specs.Laws.Lengths.{length-text}
-use Rattle.hex.specs.Theorems.RoundTrip.{exported}
+use Rattle.hex.specs.Theorems.Exported.{fits, exported}
 
 -- ---- check by check
 
@@ -53,25 +49,12 @@ module _ (words out : List ℕ) (v : ℕ) (e : v ≡ exportVerdict words out) wh
   refuses n = simp (ne-eqb (exportVerdict words out) 0 (λ z. n (e ∙ z)), e)
 
   module _ (z : v ≡ 0) where
-    record Fits : Type 0 where
-      pub least : 1 ≤ length words
-      pub most : length words ≤ 2048
-      pub room : length (textOf words) ≤ length out
-
-    accepted : Fits
-    unfolding exportVerdict exportChecks firstOf
-    accepted =
-        let size = passed (leb 1 (length words) && leb (length words) 2048) _ 21 (omega arith) (sym e ∙ z) in
-        let fits = passed (leb (length (textOf words)) (length out)) _ 31 (omega arith) (size .1) in
-        let sizes = both (leb 1 (length words)) _ (size .0) in
-        record { least = leb-true _ _ (sizes .0); most = leb-true _ _ (sizes .1); room = leb-true _ _ (fits .0) }
-
     pub most : length words ≤ 2048
-    most = accepted .most
+    most = fits words out (sym e ∙ z) .most
 
     pub writes : (new : List ℕ) (n : ℕ) → putOf n new ≡ put (textOf words) 0 out → record { answer = v; length = n; out = new } ≡ export words out
     writes new n s =
-        let f = accepted in
+        let f = fits words out (sym e ∙ z) in
         let w = put-whole (textOf words) out 0 (omega arith) n new s in
         let l : n ≡ length (textOf words) = omega arith in
-        simp (z, l, w .1 ∙ sets-over (textOf words) out (f .room)) (sym (exported words out (f .least) (f .most) (f .room)))
+        simp (z, l, w .1 ∙ sets-over (textOf words) out (f .room)) (sym (exported words out f))

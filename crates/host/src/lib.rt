@@ -8,6 +8,7 @@ ghost use Rattle.rules.specs.Images.{load, check, write};
 ghost use Rattle.rules.specs.Counts.{ownedCount, jumpCount, storeCount, widest};
 ghost use Rattle.sources.specs.Meaning.{assemble};
 ghost use Rattle.sources.specs.Listing.{disassemble};
+ghost use Rattle.hex.specs.Exporting.{export};
 ghost use Rattle.machine.specs.Views.{stateOf};
 ghost use Rattle.loader.specs.Views.{lent};
 ghost use Rattle.host.specs.Views.{loadedBy, checkedBy, steppedBy, ranBy, decodedBy, laidOut, encodedBy, writtenBy, assembledBy};
@@ -139,6 +140,16 @@ pub extern "C" fn kl_disassemble(words: &[u32], out: &mut [u8], length: &mut usi
     let d = disassembler::disassemble(words, out);
     *length = d.length;
     d.answer
+}
+
+// Writes words as a text in the Intel HEX format to the front of a buffer; length is how many bytes it takes.
+#[no_mangle]
+pub extern "C" fn kl_export(words: &[u32], out: &mut [u8], length: &mut usize) -> u32
+    ensures { λ r. ⌜ writtenBy r (now (length .exit)) (now (out .exit)) ≡ export (now (words .entry)) (now (out .entry)) ⌝ }
+{
+    let e = exporter::export(words, out);
+    *length = e.length;
+    e.answer
 }
 
 // The addresses that a compartment owns, services counted.

@@ -177,13 +177,17 @@ module _ (text regs : List ℕ) (entry : ℕ) (out : List ℕ) where
 -- ---- exporting
 
 module _ (words out : List ℕ) where
-  export-answer : export words out .answer ≡ firstOf (exportChecks words out)
-  unfolding export exportVerdict
-  export-answer = go (eqb (exportVerdict words out) answer.done) refl
+  pub export-verdict : export words out .answer ≡ exportVerdict words out
+  unfolding export
+  export-verdict = go (eqb (exportVerdict words out) answer.done) refl
     where
       go : (b : Bool) → eqb (exportVerdict words out) answer.done ≡ b → export words out .answer ≡ exportVerdict words out
       go true e = rw e (sym (eqb-true (exportVerdict words out) answer.done e))
       go false e = rw e refl
+
+  export-answer : export words out .answer ≡ firstOf (exportChecks words out)
+  unfolding exportVerdict
+  export-answer = export-verdict
 
   pub export-number : (n : ℕ) → (n ≡ answer.done → ⊥) → (export words out .answer ≡ n) ↔ Exactly (exportChecks words out) n
   export-number n h = on-its-condition (export words out .answer) (exportChecks words out) export-answer n h

@@ -1,8 +1,8 @@
 -- The place reached is within the registers.
 use Prim.Native.Nat.{_-_, _≤_}
 use borrow.Author.Needs.{needs}
-use Rattle.card_dis.proofs.has_registers.Statement.{statement}
-use Rattle.card_dis.proofs.has_registers.Tie as tie
+use Rattle.image_input.proofs.has_registers.Statement.{statement}
+use Rattle.image_input.proofs.has_registers.Tie as tie
 
 abbrev Inv-loop : tie.InvT-loop
 Inv-loop regs i₀ i = i ≤ 16
