@@ -13,6 +13,7 @@ pub mod CodeRefusals
 pub mod CodeSteps
 pub mod CodeAgreement
 pub mod CodeSources
+pub mod CodeExport
 pub mod CodeCounts
 pub mod CodePrinted
 pub mod Checking

@@ -4,4 +4,5 @@ pub mod Machine
 pub mod Inner
 pub mod Host
 pub mod Sources
+pub mod Exports
 pub mod Printed

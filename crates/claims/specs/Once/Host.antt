@@ -15,6 +15,7 @@ use Rattle.host.proofs.kl_encode.Reads as kl-encode
 use Rattle.host.proofs.kl_write.Reads as kl-write
 use Rattle.host.proofs.kl_assemble.Reads as kl-assemble
 use Rattle.host.proofs.kl_disassemble.Reads as kl-disassemble
+use Rattle.host.proofs.kl_export.Reads as kl-export
 use Rattle.report.proofs.owned.Reads as owned
 use Rattle.report.proofs.jumps.Reads as jumps
 use Rattle.report.proofs.stores.Reads as stores
@@ -50,13 +51,16 @@ kl-encode-once κs a r q s t = same-by (λ (m : words.Encoded). (m .answer, m .w
 pub kl-write-once : Once kl-write.Post {Out = ℕ × ℕ × List ℕ} (λ κs r s. (r, s .1 .1 .1 .1 .0 .now, s .1 .1 .1 .0 .now))
 kl-write-once κs a r q s t = same-by (λ (m : images.Written). (m .answer, m .length, m .out))
 
--- kl_assemble, with the line, the length and the buffer; kl_disassemble, with the length and the buffer
+-- kl_assemble, with the line, the length and the buffer; kl_disassemble and kl_export, with the length and the buffer
 
 pub kl-assemble-once : Once kl-assemble.Post {Out = ℕ × ℕ × ℕ × List ℕ} (λ κs r s. (r, s .1 .1 .0 .now, s .1 .1 .1 .0 .now, s .1 .0 .now))
 kl-assemble-once κs a r q s t = same-by (λ (m : sources.Assembled). (m .answer, m .line, m .length, m .out))
 
 pub kl-disassemble-once : Once kl-disassemble.Post {Out = ℕ × ℕ × List ℕ} (λ κs r s. (r, s .1 .1 .0 .now, s .1 .0 .now))
 kl-disassemble-once κs a r q s t = same-by (λ (m : images.Written). (m .answer, m .length, m .out))
+
+pub kl-export-once : Once kl-export.Post {Out = ℕ × ℕ × List ℕ} (λ κs r s. (r, s .1 .1 .0 .now, s .1 .0 .now))
+kl-export-once κs a r q s t = same-by (λ (m : images.Written). (m .answer, m .length, m .out))
 
 -- report: owned, jumps, stores, widest; kl_owned, kl_jumps, kl_stores, kl_widest
 
