@@ -37,10 +37,12 @@ void exports_row(double ms, int rounds)
     for (int round = 0; round < rounds; round++) {
         c_ms = least(c_ms, timed(sheet_export, &c, repeats));
         ours_ms = least(ours_ms, timed(kl_export, &ours, repeats));
-        fprintf(stderr, "bench: %s: round %d of %d, least so far: C %.1f ms, ours %.1f ms\n", NAME, round + 1, rounds, c_ms, ours_ms);
+        fprintf(stderr, "bench: %s: round %d of %d, least so far: C %.1f ms, ours %.1f ms\n", NAME, round + 1, rounds, c_ms,
+                ours_ms);
     }
     if (c.length != ours.length || memcmp(c.bytes, ours.bytes, c.length) != 0) fail(NAME, "the texts differ");
     const double megabytes = 1e-6 * (double)c.length * repeats;
-    printf("%-30s %12u %10.2f %10.2f %8.2f\n", NAME, (unsigned)repeats, 1e3 * megabytes / c_ms, 1e3 * megabytes / ours_ms, c_ms / ours_ms);
+    printf("%-30s %12u %10.2f %10.2f %8.2f\n", NAME, (unsigned)repeats, 1e3 * megabytes / c_ms, 1e3 * megabytes / ours_ms,
+           c_ms / ours_ms);
     printf("(the last row counts texts: MB of text a second by plain C and by the library, and the ratio of their times)\n");
 }

@@ -3,7 +3,7 @@
 
 # An image of a Halt behind a Nop, one register and the entry, each given: N 2.
 image_of() { # NAME REGISTER ENTRY
-    printf "\\2\\0\\0\\0\\0\\0\\0\\0\\0\\0\\0\\15\\1\\0\\0\\0\\$2\\0\\0\\0\\1\\0\\0\\0\\$3\\0\\0\\0" >"$room/$1.img"
+    printf '%b' '\02\0\0\0' '\0\0\0\0' '\0\0\0\015' '\01\0\0\0' "\\0$2\\0\\0\\0" '\01\0\0\0' "\\0$3\\0\\0\\0" >"$room/$1.img"
 }
 
 exports_text() { # IMAGE TEXT

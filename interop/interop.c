@@ -13,7 +13,8 @@
 enum { BYTES_MOST = 4 * KL_PLACES, TEXT_MOST = 1 << 18 };
 
 /* Texts that tools wrote, and files that tools read back. */
-static const char *const TEXTS[] = {"objcopy.hex", "srec.hex", "short.hex", "long.hex", "crlf.hex", "plain.hex", "gap.hex", "start.hex"};
+static const char *const TEXTS[] = {"objcopy.hex", "srec.hex", "short.hex", "long.hex",
+                                    "crlf.hex", "plain.hex", "gap.hex", "start.hex"};
 static const char *const BACKS[] = {"objcopy.back", "srec.back"};
 #define COUNT_OF(list) (sizeof(list) / sizeof((list)[0]))
 
