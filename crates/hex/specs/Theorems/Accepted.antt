@@ -22,7 +22,7 @@ use Rattle.hex.specs.Theorems.Numbers.{says-not, import-done, import-acc
 
 -- ---- the words of a memory
 
-past-most : (l : List ℕ) → past l ≤ length l
+pub past-most : (l : List ℕ) → past l ≤ length l
 unfolding past
 past-most [] = omega arith
 past-most (x ∷ xs) = go (eqb (past xs) 0) (ltb x none) (past-most xs)
