@@ -9,9 +9,10 @@ ghost use Rattle.rules.specs.Counts.{ownedCount, jumpCount, storeCount, widest}
 ghost use Rattle.sources.specs.Meaning.{assemble};
 ghost use Rattle.sources.specs.Listing.{disassemble};
 ghost use Rattle.hex.specs.Exporting.{export};
+ghost use Rattle.hex.specs.Importing.{import};
 ghost use Rattle.machine.specs.Views.{stateOf};
 ghost use Rattle.loader.specs.Views.{lent};
-ghost use Rattle.host.specs.Views.{loadedBy, checkedBy, steppedBy, ranBy, decodedBy, laidOut, encodedBy, writtenBy, assembledBy};
+ghost use Rattle.host.specs.Views.{loadedBy, checkedBy, steppedBy, ranBy, decodedBy, laidOut, encodedBy, writtenBy, assembledBy, importedBy};
 use machine::Processor;
 
 // Loads an image over whatever the record held, for a run in a mode; a refused load leaves the blank record of that mode.
@@ -130,6 +131,25 @@ pub extern "C" fn kl_assemble(
     *line = a.line;
     *length = a.length;
     a.answer
+}
+
+// Imports a text of Intel HEX to the front of a buffer, with registers and an entry; line is the record at fault, and length how many
+// bytes the image takes.
+#[no_mangle]
+pub extern "C" fn kl_import(
+    text: &[u8],
+    regs: &[u32; 16],
+    entry: u32,
+    out: &mut [u8],
+    line: &mut u64,
+    length: &mut usize,
+) -> u32
+    ensures { λ r. ⌜ importedBy r (now (line .exit)) (now (length .exit)) (now (out .exit)) ≡ import (now (text .entry)) (now (regs .entry)) entry (now (out .entry)) ⌝ }
+{
+    let i = importer::import(text, regs, entry, out);
+    *line = i.line;
+    *length = i.length;
+    i.answer
 }
 
 // Writes a source of words to the front of a buffer; length is how many bytes it takes.
