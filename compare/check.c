@@ -9,7 +9,7 @@
 #include <string.h>
 #include <time.h>
 
-enum { ANSWERS = 32, LISTED = 40, COUNTED = 8 }; /* COUNTED: one in so many states has its counts compared */
+enum { ANSWERS = 80, LISTED = 40, COUNTED = 8 }; /* COUNTED: one in so many states has its counts compared */
 
 /* No step may take longer. 1,023 pairs over 2,048 words took 2 ms, and 15 in an emulator; a library that walks all of
    (0, 4294967295) before it answers took 3,500. */

@@ -77,12 +77,13 @@ void begin_report(const char *call);
 void show(const char *what, size_t place, uint64_t ours, uint64_t sheet); /* where they differ; not all of many */
 void end_report(void);                            /* ends with status 1 */
 
-/* ---- cases.c, lines.c, strict.c, exports.c: the kinds ---- */
+/* ---- cases.c, lines.c, strict.c, exports.c, imports.c: the kinds ---- */
 void fixed_words(void);
 void fixed_images(void);
 void fixed_writes(void);
 void fixed_services(void);
 void fixed_exports(void);
+void fixed_imports(void);
 void fixed_counts(void);
 void words_case(void);
 void images_case(void);
@@ -93,6 +94,7 @@ void services_case(void);
 void programs_case(void);
 void counts_case(void);
 void exports_case(void);
+void imports_case(void);
 void sheet_lines(void);
 void strict_lines(void);
 
