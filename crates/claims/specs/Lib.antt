@@ -14,6 +14,7 @@ pub mod CodeSteps
 pub mod CodeAgreement
 pub mod CodeSources
 pub mod CodeExport
+pub mod CodeImport
 pub mod CodeCounts
 pub mod CodePrinted
 pub mod Checking

@@ -5,4 +5,5 @@ pub mod Inner
 pub mod Host
 pub mod Sources
 pub mod Exports
+pub mod Imports
 pub mod Printed
