@@ -60,6 +60,13 @@ pub fn put_hexadecimal(out: &mut [u8], at: usize, w: u32) -> usize
 pub fn put_pair(out: &mut [u8], at: usize, b: u32) -> usize
     ensures { λ r. ⌜ putOf r (now (out .exit)) ≡ put (digits 16 2 b) at (now (out .entry)) ⌝ }
 {
-    let pair = [glyph(b / 16 % 16), glyph(b % 16)];
-    put_text(out, at, &pair)
+    let high = glyph(b / 16 % 16);
+    let low = glyph(b % 16);
+    let end = out.len();
+    if 2 <= end - least(at, end) {
+        out[at] = high;
+        out[at + 1] = low;
+        return at + 2;
+    }
+    put_text(out, at, &[high, low])
 }
