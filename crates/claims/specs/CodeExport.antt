@@ -7,7 +7,7 @@ use lib.ListN.{getD, length, take, drop}
 use Rattle.common.specs.Tables.{Exactly, NoneHolds}
 use Rattle.rules.specs.Images.{Written, imageBytes}
 use Rattle.hex.specs.Exporting.{textOf, exportChecks, export}
-use Rattle.hex.specs.Importing.{import, accepted}
+use Rattle.hex.specs.Importing.{Imported, import, accepted}
 use Rattle.hex.specs.Laws.Lengths as lengths
 use Rattle.hex.specs.Theorems.Numbers as numbers
 use Rattle.hex.specs.Theorems.Exported as exported
@@ -15,6 +15,7 @@ use Rattle.hex.specs.Theorems.RoundTrip as round-trip
 use Rattle.exporter.proofs.export.Reads as exporter
 use Rattle.host.proofs.kl_export.Reads as kl-export
 use Rattle.claims.specs.Contracts.{Promise, Allows, allowed}
+use Rattle.claims.specs.CodeImport.{Importer}
 
 -- what the contract of export allows, and that it is what the words mean
 pub record Exporter : Type 1 where
@@ -93,6 +94,14 @@ module _ (code : Exporter) (words out : List ℕ) (o : Written) (h : code .Expor
         let f = exported.accepted words out done in
         ap (λ (t : List ℕ). import t regs entry image) text-is
         ∙ round-trip.text-imported words regs entry image (f .least) (f .most) small below fits
+
+    -- by any import of it, by value or for C
+    pub imported-back : (importer : Importer) → ((i : ℕ) → i < length words → getD words i 0 < 2 ^ 32) → (regs : List ℕ) (entry : ℕ) (image : List ℕ) (i : Imported)
+        → importer .Imports (record { text = take (o .length) (o .out); regs = regs; entry = entry; out = image }) i → entry < length words → length (imageBytes words regs entry) ≤ length image
+        → i ≡ accepted words regs entry image
+    imported-back importer small regs entry image i k below fits =
+        importer .imports (record { text = take (o .length) (o .out); regs = regs; entry = entry; out = image }) i k
+        ∙ imports-back small regs entry image below fits
 
 -- 22,540 bytes are enough
 pub text-most : (words : List ℕ) → length words ≤ 2048 → length (textOf words) ≤ 22540
