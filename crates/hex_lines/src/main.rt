@@ -3,9 +3,8 @@
 //
 // A line has the length of the buffer, the entry, the value of r0, each in decimal, and the text, in which / stands for LF and ~ for CR.
 // A line that begins with # is printed as it is.
-mod show;
-
 use libc::STDIN_FILENO;
+use outcomes::MARK;
 
 // A number, and the place behind it and one blank.
 struct Field {
@@ -70,10 +69,24 @@ fn unfold(line: &[u8], at: usize, text: &mut [u8]) -> usize {
     n
 }
 
+fn import_into(text: &[u8], regs: &[u32; 16], entry: u32, out: &mut [u8]) {
+    let i = importer::import(text, regs, entry, out);
+    outcomes::print_outcome(i.answer, i.line, i.length, 0, 0, out);
+}
+
+// Imports a text into the first places of a buffer of marks, with all registers but r0 at 0.
+fn imported(text: &[u8], room: usize, entry: u32, r0: u32) {
+    let mut out = [MARK; 8272];
+    let n = streams::within(room, &out);
+    let mut regs = [0u32; 16];
+    regs[0] = r0;
+    import_into(text, &regs, entry, &mut out[..n]);
+}
+
 fn case(line: &[u8]) {
     if byte(line, 0) == b'#' {
-        show::print(line);
-        show::print(b"\n");
+        outcomes::print(line);
+        outcomes::print(b"\n");
         return;
     }
     let room = number(line, 0);
@@ -82,7 +95,7 @@ fn case(line: &[u8]) {
     let mut text = [0u8; 1024];
     let length = unfold(line, r0.next, &mut text);
     let n = streams::within(length, &text);
-    show::imported(&text[..n], room.value as usize, entry.value, r0.value);
+    imported(&text[..n], room.value as usize, entry.value, r0.value);
 }
 
 // The case at a place, if its line has one; answers the place of its LF, or one behind the end.

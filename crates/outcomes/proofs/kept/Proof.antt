@@ -1,9 +1,9 @@
 -- The place reached goes up to the buffer's end.
 use Prim.Native.Nat.{_-_}
-use lib.ListN.{length}
 use borrow.Author.Needs.{needs}
-use Rattle.source_lines.proofs.show.kept.Statement.{statement}
-use Rattle.source_lines.proofs.show.kept.Tie as tie
+use lib.ListN.{length}
+use Rattle.outcomes.proofs.kept.Statement.{statement}
+use Rattle.outcomes.proofs.kept.Tie as tie
 
 abbrev Inv-loop : tie.InvT-loop
 Inv-loop out from i₀ i = Unit {0}
@@ -14,5 +14,4 @@ abbrev μ-loop : tie.MeasureT-loop
 pub kept-spec : {M : Type 1} → statement M
 kept-spec =
     tie.close
-    (tie.spec Inv-loop μ-loop (λ c. search needs) (λ c. search needs) _ (λ c. search needs) (λ c. search needs)
-    (λ c. search needs) _)
+    (tie.spec Inv-loop μ-loop _ (λ c. search needs) _ (λ c. search needs) (λ c. search needs) _ _)
