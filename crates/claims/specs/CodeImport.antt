@@ -14,6 +14,7 @@ use Rattle.hex.specs.Theorems.Numbers.{FirstFault}
 use Rattle.hex.specs.Theorems.Numbers as numbers
 use Rattle.hex.specs.Theorems.Accepted.{Says}
 use Rattle.hex.specs.Theorems.Accepted as accepted
+use Rattle.hex.specs.Theorems.Answers.{isAnswer, import-answers}
 use Rattle.importer.proofs.import.Reads as importer
 use Rattle.host.proofs.kl_import.Reads as kl-import
 use Rattle.claims.specs.Contracts.{Promise, Allows, allowed}
@@ -69,6 +70,10 @@ module _ (code : Importer) (text regs : List ℕ) (entry : ℕ) (out : List ℕ)
 
   answer-is : o .answer ≡ import text regs entry out .answer
   answer-is = ap (λ (x : Imported). x .answer) is
+
+  -- 0, 25, 31 or 60 to 68, whatever it is given
+  pub some-answer : isAnswer (o .answer) ≡ true
+  some-answer = ap isAnswer answer-is ∙ import-answers text regs entry out
 
   -- "Refusals, record by record": a number and a record are told exactly where that record is the first at fault, with that number
   pub answer-record : (n k : ℕ) → 1 ≤ k → ((o .answer ≡ n) × (o .line ≡ k)) ↔ FirstFault text n k

@@ -4,3 +4,4 @@ pub mod Exported
 pub mod ReadBack
 pub mod RoundTrip
 pub mod Accepted
+pub mod Answers

@@ -1,6 +1,6 @@
 -- The parts of a record and what is asked of it, as the code comes to them.
 use mathlib.Core.Path.{_≡_, refl, sym}
-use mathlib.Core.Bool.{Bool, true, false, cond, _||_, not}
+use mathlib.Core.Bool.{Bool, true, false, cond, _||_, not, or-false}
 use mathlib.Core.List.{List}
 use mathlib.Core.Logic.{_≢_}
 use Prim.Native.Nat.{ℕ, suc, _+_, _-_, _*_, _%_, _<_, _≤_}
@@ -110,11 +110,7 @@ module _ (r : List ℕ) where
     module _ (c : ℕ) (f : c ≡ octet r 0) where
       pub end-count : k ≡ 1 → not (eqb c 0) ≡ wrongCount r
       unfolding wrongCount
-      end-count z = simp (← e, z, ← f) (go (not (eqb c 0)))
-        where
-          go : (b : Bool) → b ≡ (b || false)
-          go true = refl
-          go false = refl
+      end-count z = simp (← e, z, ← f, or-false (not (eqb c 0)))
 
       pub base-count : k ≢ 1 → k ≡ 4 → not (eqb c 2) ≡ wrongCount r
       unfolding wrongCount

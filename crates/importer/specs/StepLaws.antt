@@ -1,6 +1,6 @@
 -- A line's verdict, its bytes put, and all lines, as the code comes to them.
 use mathlib.Core.Path.{_≡_, refl, sym, _∙_}
-use mathlib.Core.Bool.{Bool, true, false, cond, _&&_, _||_, not}
+use mathlib.Core.Bool.{Bool, true, false, cond, _&&_, _||_, not, and-true, and-false}
 use mathlib.Core.List.{List, [], _∷_}
 use mathlib.Core.Logic.{_≢_}
 use Prim.Native.Nat.{ℕ, _+_, _-_, _<_, _≤_}
@@ -36,14 +36,6 @@ module _ (bytes : List ℕ) where
   one-return e = (omega arith, rw e refl)
 
 -- ---- 63 and 64
-
-and-false : (b : Bool) → (b && false) ≡ false
-and-false true = refl
-and-false false = refl
-
-and-true : (b : Bool) → (b && true) ≡ false → b ≡ false
-and-true true h = h
-and-true false h = h
 
 module _ (base : ℕ) (m r : List ℕ) (n : ℕ) (e : n ≡ octet r 0) where
   pub no-bytes : n ≡ 0 → answer.done ≡ dataVerdict base m r
@@ -112,7 +104,7 @@ module _ (s : Said) (whole : Bool) (r bytes : List ℕ) (e : r ≡ body bytes) w
   fitting d t n =
       let h = done-otherwise (recordVerdict s (line bytes whole)) (recordChecks s (line bytes whole)) refl refl .0 (sym d) in
       let b : (eqb (type r) data-type && (ltb room (addressOf (s .base) r + count r) && not (eqb (count r) 0))) ≡ false = rw (sym e) at (h .1 .1 .1 .1 .0) in
-      ltb-false room (addressOf (s .base) r + count r) (and-true (ltb room (addressOf (s .base) r + count r)) (rw (t, ne-eqb (count r) 0 n) at b))
+      ltb-false room (addressOf (s .base) r + count r) (sym (and-true (ltb room (addressOf (s .base) r + count r))) ∙ rw (t, ne-eqb (count r) 0 n) at b)
 
 -- ---- the bytes of a data record, put
 
