@@ -264,6 +264,7 @@ int main(int argc, char **argv)
     row(loading(), ms, rounds);
     printf("(the last row counts loads, not steps; the strict row, it and what follows are outside the ratio)\n");
     sources_row(ms, rounds);
+    hex_rows(ms, rounds);
     printf("ratio %.2f\n", ratio);
     return 0;
 }

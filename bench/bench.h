@@ -13,4 +13,7 @@ double least(double a, double b);
 /* Times the assembler on a text with labels beside the same text with numbers for them, and prints the row. */
 void sources_row(double ms, int rounds);
 
+/* Times Intel HEX both ways beside plain C, and prints the rows. */
+void hex_rows(double ms, int rounds);
+
 #endif

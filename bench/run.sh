@@ -27,7 +27,8 @@ build_at() { # SHIFT
 }
 
 build_bench() { # NAME
-    build "$1" "$root/bench/bench.c" "$root/bench/sources.c" "$root/bench/sheet.c" "$root/bench/sheet_images.c"
+    build "$1" "$root/bench/bench.c" "$root/bench/sources.c" "$root/bench/hex.c" "$root/bench/sheet.c" "$root/bench/sheet_images.c" \
+        "$root/bench/sheet_export.c" "$root/bench/sheet_import.c"
 }
 
 # One table of several: the rows' means, and the least and the greatest of their ratios.

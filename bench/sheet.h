@@ -41,4 +41,11 @@ uint32_t sheet_stores(const kl_processor *cpu, const uint64_t *writers, size_t w
 uint32_t sheet_widest(const kl_processor *cpu, const uint32_t *owners, size_t owners_len, const uint64_t *writers,
                       size_t writers_len);
 
+/* ---- sheet_import.c ---- */
+uint32_t sheet_import(const uint8_t *text, size_t text_len, const uint32_t regs[16], uint32_t entry, uint8_t *out,
+                      size_t out_len, uint64_t *line, size_t *length);
+
+/* ---- sheet_export.c ---- */
+uint32_t sheet_export(const uint32_t *words, size_t words_len, uint8_t *out, size_t out_len, size_t *length);
+
 #endif

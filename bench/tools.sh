@@ -1,5 +1,5 @@
 # Finds what a C program over the verified library needs: the library, a compiler for x86-64 and, on another processor, the kit's
-# emulator; compiles it. Sourced by bench/run.sh, compare/run.sh and edges/run.sh, which set `root` and `me`.
+# emulator; compiles it. Sourced by bench/run.sh, compare/run.sh, interop/run.sh and edges/run.sh, which set `root` and `me`.
 # shellcheck shell=bash disable=SC2154
 # shellcheck source=scripts/ends.sh
 . "$root/scripts/ends.sh"

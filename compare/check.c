@@ -9,12 +9,11 @@
 #include <string.h>
 #include <time.h>
 
-enum { ANSWERS = 32, LISTED = 40, COUNTED = 8 }; /* COUNTED: one in so many states has its counts compared */
+enum { ANSWERS = 80, LISTED = 40, COUNTED = 8 }; /* COUNTED: one in so many states has its counts compared */
 
 /* No step may take longer. 1,023 pairs over 2,048 words took 2 ms, and 15 in an emulator; a library that walks all of
    (0, 4294967295) before it answers took 3,500. */
 enum { STEP_LIMIT_MS = 250 };
-#define ALONE SIZE_MAX /* the place of a value that is not one of many */
 
 static struct {
     const char *kind;
@@ -53,7 +52,7 @@ uint64_t end_kind(void)
     return now.cases;
 }
 
-static void count_case(uint32_t answer)
+void count_case(uint32_t answer)
 {
     now.cases++;
     now.all_cases++;
@@ -62,13 +61,13 @@ static void count_case(uint32_t answer)
 
 /* ---- the report ---- */
 
-static void begin_report(const char *call)
+void begin_report(const char *call)
 {
     fflush(stdout);
     printf("\ncompare: DIFFERENCE in kind '%s', case %" PRIu64 ", in the call %s\n", now.kind, now.number, call);
 }
 
-static void end_report(void)
+void end_report(void)
 {
     printf("to repeat: compare/run.sh %" PRIu64 " %" PRIu64 " (a larger count meets it too)\n", now.seed,
            now.number + 1);
@@ -77,7 +76,7 @@ static void end_report(void)
 }
 
 /* Prints one value where the sides differ, with its place where it has one; only the first LISTED of a report. */
-static void show(const char *what, size_t place, uint64_t ours, uint64_t sheet)
+void show(const char *what, size_t place, uint64_t ours, uint64_t sheet)
 {
     static unsigned shown;
     if (ours == sheet || shown++ >= LISTED) return;

@@ -25,6 +25,7 @@ static const struct kind {
     {"writes", fixed_writes, writes_case}, {"states", NULL, states_case},
     {"refused", NULL, refused_case},       {"services", fixed_services, services_case},
     {"programs", NULL, programs_case},     {"counts", fixed_counts, counts_case},
+    {"exports", fixed_exports, exports_case}, {"imports", fixed_imports, imports_case},
 };
 
 /* One line that is written over on a terminal; elsewhere a line where a kind begins and at each quarter. */

@@ -70,11 +70,20 @@ void begin_kind(const char *name, uint64_t seed);
 void begin_case(uint64_t number);
 uint64_t end_kind(void);                          /* prints the kind's counts; gives its cases */
 
-/* ---- cases.c, lines.c, strict.c: the kinds ---- */
+/* ---- check.c: the report of a difference ---- */
+#define ALONE SIZE_MAX /* the place of a value that is not one of many */
+void count_case(uint32_t answer);
+void begin_report(const char *call);
+void show(const char *what, size_t place, uint64_t ours, uint64_t sheet); /* where they differ; not all of many */
+void end_report(void);                            /* ends with status 1 */
+
+/* ---- cases.c, lines.c, strict.c, exports.c, imports.c: the kinds ---- */
 void fixed_words(void);
 void fixed_images(void);
 void fixed_writes(void);
 void fixed_services(void);
+void fixed_exports(void);
+void fixed_imports(void);
 void fixed_counts(void);
 void words_case(void);
 void images_case(void);
@@ -84,6 +93,8 @@ void refused_case(void);
 void services_case(void);
 void programs_case(void);
 void counts_case(void);
+void exports_case(void);
+void imports_case(void);
 void sheet_lines(void);
 void strict_lines(void);
 

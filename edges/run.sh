@@ -7,7 +7,7 @@ root=$(cd "$(dirname "${BASH_SOURCE[0]}")/.." && pwd)
 me=edges
 # shellcheck source=bench/tools.sh
 . "$root/bench/tools.sh"
-for part in checking reading writing building saying hosts; do
+for part in checking reading writing exporting importing building saying hosts; do
     # shellcheck source=/dev/null
     . "$root/edges/$part.sh"
 done
@@ -22,6 +22,8 @@ esac
 prepare
 read_checks
 write_checks
+export_checks
+import_checks
 program_checks
 building_checks
 saying_checks

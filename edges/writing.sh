@@ -105,7 +105,7 @@ write_checks() {
     check check_status "$room/loop.kl" 0 '2 words' '' -- "check: a source is assembled first"
     check check_status /dev/null 2 '' '20: the image ends inside a field' -- "check: refused is status 2, with its sentence"
     check check_status "$room/bad.kl" 2 '' 'bad.kl:1: 50:' -- "check: a refused source is status 2, with its line"
-    for command in run check dis; do
+    for command in run check dis export; do
         check full_output "$command" "$room/eleven.img" -- "$command: standard output is full"
         check closed_output "$command" "$room/eleven.img" -- "$command: standard output is closed"
         check broken_pipe "$command" "$room/eleven.img" -- "$command: a pipe that nobody reads"

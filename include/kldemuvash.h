@@ -33,7 +33,7 @@
    records and memories may be made by different threads at once. What a call may write to is that call's
    alone until it returns; the counts only read, and may share what they are lent.
    The archive needs memcpy and memset of the C library, and nothing else. kl_assemble uses about 100 KB of the
-   stack, every other call less than 8 KB.
+   stack, kl_import about 25 KB, every other call less than 8 KB.
 
    On x86-64 Linux; usable from C (C99 on) and C++ (C++11 on). examples/host.c is a host. */
 #ifndef KLDEMUVASH_H
@@ -48,16 +48,17 @@ extern "C" {
 #endif
 
 /* Grows by one where a declaration of this header is added or changes: 1 the base, 2 sources, 3 strict mode, 4 kl_check,
-   5 kl_widest is lent the owners, 6 KL_STRAY_BIT beside KL_NO_INSTRUCTION. */
-#define KL_VERSION 6
+   5 kl_widest is lent the owners, 6 KL_STRAY_BIT beside KL_NO_INSTRUCTION, 7 Intel HEX. */
+#define KL_VERSION 7
 
 /* Sizes. */
 enum {
     KL_PLACES = 2048,      /* the most words of memory: memories of so many places hold every image */
     KL_REGISTERS = 16,     /* r0 to r15 */
     KL_COMPARTMENTS = 64,  /* compartment numbers are below it */
-    KL_IMAGE_MAX = 8272,   /* bytes of the longest image: enough for kl_write and kl_assemble */
-    KL_LINE_MAX = 16       /* bytes of the longest line of kl_disassemble, its LF counted */
+    KL_IMAGE_MAX = 8272,   /* bytes of the longest image: enough for kl_write, kl_assemble and kl_import */
+    KL_LINE_MAX = 16,      /* bytes of the longest line of kl_disassemble, its LF counted */
+    KL_HEX_MAX = 22540     /* bytes of the longest text of kl_export */
 };
 
 /* The addresses of the services. */
@@ -104,7 +105,16 @@ enum {
     KL_LABEL_TWICE = 52,     /* the line defines a label that a line before it defines */
     KL_VALUE_OUTSIDE = 53,   /* a value is outside its bounds */
     KL_TOO_DEEP = 54,        /* a seventeenth bracket is opened */
-    KL_MANY_WORDS = 55       /* the line holds a word after the 2,048th */
+    KL_MANY_WORDS = 55,      /* the line holds a word after the 2,048th */
+    KL_BAD_RECORD = 60,      /* the line is no record */
+    KL_BAD_SUM = 61,         /* the checksum is wrong */
+    KL_OTHER_TYPE = 62,      /* the record's type is none of 00, 01 and 04 */
+    KL_BEYOND_MEMORY = 63,   /* the record has a byte beyond 2,048 words */
+    KL_BYTE_TWICE = 64,      /* the record has a byte that was given before */
+    KL_AFTER_END = 66,       /* something stands after the end record */
+    KL_NO_END = 65,          /* there is no end record */
+    KL_PART_WORD = 67,       /* one past the highest byte address is not a multiple of four */
+    KL_NO_DATA = 68          /* no record has data */
 };
 
 /* The opcodes. */
@@ -232,12 +242,33 @@ uint32_t kl_write(const uint32_t *words, size_t words_len, const uint32_t regs[1
    short. Then *length is 0 and `out` is as it was. Any bytes are a text; 8,272 bytes of `out` are enough for every image. */
 uint32_t kl_assemble(const uint8_t *text, size_t text_len, uint8_t *out, size_t out_len, uint64_t *line, size_t *length);
 
+/* Imports a text in the Intel HEX format, record types 00, 01 and 04, into the image of its words, with these registers and this
+   entry, at the front of `out`: four bytes to a word, lowest first, gaps filled with 0. Digits are read in either case; a line ends
+   in LF, or CR and LF; types 01 and 04 may have any address field.
+   Answers 0 with the number of bytes written in *length and *line 0; `out` beyond them keeps its contents.
+   Answers, of the first record at fault, which is told in *line, counted from 1, the first that applies: 66 something stands after
+   the end record, 60 the line is no record (a colon and pairs of digits as its count says, with its LF; no data in type 01, two
+   bytes in type 04), 61 its bytes do not sum up to 0 modulo 256, 62 its type is another, 63 one of its bytes is beyond 2,048 words,
+   64 one was given before. Else, with *line 0, the first that applies: 65 there is no end record, 68 no record has data, 67 one past
+   the highest byte address is not a multiple of four, 25 entry not below the number of words, 31 `out` is too short. Then *length is
+   0 and `out` is as it was. Any bytes are a text; 8,272 bytes of `out` are enough for every image. */
+uint32_t kl_import(const uint8_t *text, size_t text_len, const uint32_t regs[16], uint32_t entry, uint8_t *out, size_t out_len,
+                   uint64_t *line, size_t *length);
+
 /* Writes a source of exactly `words_len` words to the front of `out`: a line for each, an instruction as the sheet spells it, any
    other word as 0x and eight digits. kl_assemble gives the same words back.
    Answers 0 with the number of bytes written in *length; `out` beyond them keeps its contents.
    Answers, the first that applies: 21 the number of words is not 1 to 2,048, 31 `out` is too short; then *length is 0 and `out` is
    as it was. 16 bytes a word are enough. */
 uint32_t kl_disassemble(const uint32_t *words, size_t words_len, uint8_t *out, size_t out_len, size_t *length);
+
+/* Writes exactly `words_len` words as a text in the Intel HEX format to the front of `out`: each word as four bytes, lowest first,
+   the first at address 0, in type 00 records of 16 bytes, the last perhaps shorter, and an end record; digits in upper case, each
+   record with an LF.
+   Answers 0 with the number of bytes written in *length; `out` beyond them keeps its contents.
+   Answers, the first that applies: 21 the number of words is not 1 to 2,048, 31 `out` is too short; then *length is 0 and `out` is
+   as it was. 22,540 bytes are enough for every image. */
+uint32_t kl_export(const uint32_t *words, size_t words_len, uint8_t *out, size_t out_len, size_t *length);
 
 /* Counts the addresses that compartment `number` owns: the places whose owner it is, and its service (4096
    is 1's, 4097 is 2's, 4098 is 3's, in strict mode 4099 is 4's). In each of the four counts a place is looked at where it is below n and

@@ -1,5 +1,5 @@
 # How a command begins and ends: its descriptors, what it says, its status, and what goes when it ends.
-# Sourced first of all by card, bench/run.sh, compare/run.sh and edges/run.sh, which set `me`.
+# Sourced first of all by card, bench/run.sh, compare/run.sh, interop/run.sh and edges/run.sh, which set `me`.
 # shellcheck shell=bash disable=SC2154
 
 # A closed descriptor would be given to the next file that is opened. Something else stands there from now on, and what was closed is kept.

@@ -13,6 +13,8 @@ pub mod CodeRefusals
 pub mod CodeSteps
 pub mod CodeAgreement
 pub mod CodeSources
+pub mod CodeExport
+pub mod CodeImport
 pub mod CodeCounts
 pub mod CodePrinted
 pub mod Checking

@@ -4,4 +4,6 @@ pub mod Machine
 pub mod Inner
 pub mod Host
 pub mod Sources
+pub mod Exports
+pub mod Imports
 pub mod Printed

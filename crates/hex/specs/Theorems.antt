@@ -1,5 +1,7 @@
--- The folder Theorems: what an export says when it is read, the round trip, and each answer exactly.
+-- The folder Theorems: each answer exactly, what an export leaves, what it says when it is read, and the round trip.
+pub mod Numbers
+pub mod Exported
 pub mod ReadBack
 pub mod RoundTrip
-pub mod Numbers
 pub mod Accepted
+pub mod Answers

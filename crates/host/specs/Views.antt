@@ -6,6 +6,7 @@ use Rattle.rules.specs.Step as step
 use Rattle.rules.specs.Run as run
 use Rattle.rules.specs.Images as images
 use Rattle.sources.specs.Meaning as sources
+use Rattle.hex.specs.Importing as hex
 use Rattle.machine.specs.Views.{stateOf}
 use Rattle.machine.specs.declared.Processor.{Processor}
 use Rattle.report.specs.Wholes as report
@@ -44,3 +45,6 @@ writtenBy answer length out = record { answer = answer; length = length; out = o
 
 abbrev pub assembledBy : ℕ → ℕ → ℕ → List ℕ → sources.Assembled
 assembledBy answer line length out = record { answer = answer; line = line; length = length; out = out }
+
+abbrev pub importedBy : ℕ → ℕ → ℕ → List ℕ → hex.Imported
+importedBy answer line length out = record { answer = answer; line = line; length = length; out = out }

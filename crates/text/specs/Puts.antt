@@ -43,6 +43,11 @@ pub none-put : (text out : List ℕ) (at : ℕ) → length out ≤ at → putOf 
 unfolding put
 none-put text out at h = let k : min (at + length text) (length out) ≡ length out = omega arith in simp (k, sets-out out at text h)
 
+-- no text
+pub put-nothing : (out : List ℕ) (at : ℕ) → at ≤ length out → putOf at out ≡ put [] at out
+unfolding put
+put-nothing out at h = let k : min (at + 0) (length out) ≡ at = omega arith in simp k
+
 -- ---- one text behind another
 
 module _ (t u out : List ℕ) (at : ℕ) where

@@ -2,7 +2,7 @@
 use mathlib.Core.Path.{_≡_, refl, sym, ap, _∙_}
 use mathlib.Core.List.{List, [], _∷_, _++_, append-assoc, append-nil}
 use mathlib.Core.Logic.{_≢_}
-use Prim.Native.Nat.{ℕ, suc, _+_, _-_, _/_, _%_, _<_, _≤_}
+use Prim.Native.Nat.{ℕ, suc, _+_, _-_, _/_, _%_, _<_, _≤_, min}
 use native.Mathlib.Nat.{mod-lt, zero-add}
 use native.Mathlib.Numerals.{add-one}
 use native.Mathlib.Omega.{arith}
@@ -21,6 +21,19 @@ text-more text out at i h =
     let l : length (take i text) ≡ i = length-take-le i text (omega arith) in
     let t : take (i + 1) text ≡ take i text ++ (getD text i 0 ∷ []) = ap (λ (k : ℕ). take k text) (add-one i) ∙ take-suc text i 0 h in
     sets-then out at (at + i) (take i text) (getD text i 0 ∷ []) (omega arith) ∙ ap (sets out at) (sym t)
+
+-- ---- a byte in two digits
+
+-- two bytes that have their places
+pub two-put : (out : List ℕ) (at x y : ℕ) → at + 2 ≤ length out → putOf (at + 2) (set (set out at x) (at + 1) y) ≡ put (x ∷ y ∷ []) at out
+unfolding put
+two-put out at x y h = let k : at + 2 ≡ min (at + 2) (length out) = omega arith in simp (← k, add-one at)
+
+-- digits that were made one by one
+pub pair-put : (b h l : ℕ) → h ≡ glyph (b / 16 % 16) → l ≡ glyph (b % 16) → (out : List ℕ) (at r : ℕ) (new : List ℕ)
+    → putOf r new ≡ put (h ∷ l ∷ []) at out → putOf r new ≡ put (digits 16 2 b) at out
+pair-put b h l e f out at r new p =
+    p ∙ ap (λ (x : ℕ). put (x ∷ l ∷ []) at out) e ∙ ap (λ (x : ℕ). put (glyph (b / 16 % 16) ∷ x ∷ []) at out) f
 
 -- ---- digits
 

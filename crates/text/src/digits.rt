@@ -19,7 +19,7 @@ pub(crate) fn width(n: u32) -> usize
 }
 
 // The byte of a digit: "0" to "9", then "A" to "F".
-fn glyph(d: u32) -> u8
+pub(crate) fn glyph(d: u32) -> u8
     requires { ⌜ d < 16 ⌝ }
     ensures { λ r. ⌜ r ≡ glyph d ⌝ }
 {

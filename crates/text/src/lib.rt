@@ -6,10 +6,12 @@ ghost use Prim.Native.Nat.{min};
 ghost use Rattle.numerals.specs.Numerals.{digits, decimal};
 ghost use Rattle.numerals.specs.Writing.{put};
 ghost use Rattle.text.specs.Puts.{putOf};
+use crate::digits::glyph;
 use crate::digits::store_digits;
 use crate::digits::width;
 
-fn least(a: usize, b: usize) -> usize
+// The lesser of two lengths.
+pub fn least(a: usize, b: usize) -> usize
     ensures { λ r. ⌜ r ≡ min a b ⌝ }
 {
     if a < b {
@@ -52,4 +54,19 @@ pub fn put_hexadecimal(out: &mut [u8], at: usize, w: u32) -> usize
     let mut digits = [0u8; 8];
     store_digits(&mut digits, 16, 8, w);
     put_text(out, at, &digits)
+}
+
+// The same of a byte in two.
+pub fn put_pair(out: &mut [u8], at: usize, b: u32) -> usize
+    ensures { λ r. ⌜ putOf r (now (out .exit)) ≡ put (digits 16 2 b) at (now (out .entry)) ⌝ }
+{
+    let high = glyph(b / 16 % 16);
+    let low = glyph(b % 16);
+    let end = out.len();
+    if 2 <= end - least(at, end) {
+        out[at] = high;
+        out[at + 1] = low;
+        return at + 2;
+    }
+    put_text(out, at, &[high, low])
 }

@@ -1,13 +1,12 @@
 -- Numbers and sections stored one after the other, as the code stores them.
 use mathlib.Core.Path.{_≡_, refl, sym, ap, _∙_}
-use mathlib.Core.List.{List, [], _∷_, _++_}
+use mathlib.Core.List.{List}
 use Prim.Native.Nat.{ℕ, suc, _+_, _*_, _/_, _%_, _<_, _≤_}
-use native.Mathlib.Numerals.{add-one}
 use native.Mathlib.Omega.{arith}
 use lib.ListN.{getD, length, set, take}
-use lib.Seq.{sets, take-suc, length-take-le}
+use lib.Seq.{sets, length-take-le}
 use Rattle.rules.specs.Images.{fourBytes, allBytes, section}
-use Rattle.images.specs.Sections.{length-all-bytes, all-bytes-append}
+use Rattle.images.specs.Sections.{length-all-bytes, bytes-more}
 use Rattle.images.specs.Stores.{sets-then}
 
 -- a number
@@ -19,18 +18,12 @@ four-stores out at x =
     let three : at + 3 ≡ suc (suc (suc at)) = omega arith in
     simp (one, two, three)
 
-all-bytes-one : (x : ℕ) → allBytes (x ∷ []) ≡ fourBytes x
-unfolding allBytes
-all-bytes-one x = refl
-
 -- the next number joins
 pub stores-more : (xs out : List ℕ) (at i : ℕ) → i < length xs
     → sets (sets out at (allBytes (take i xs))) (at + 4 * i) (fourBytes (getD xs i 0)) ≡ sets out at (allBytes (take (i + 1) xs))
 stores-more xs out at i h =
     let l : length (allBytes (take i xs)) ≡ 4 * i = length-all-bytes (take i xs) ∙ ap (λ (k : ℕ). 4 * k) (length-take-le i xs (omega arith)) in
-    let t : take (i + 1) xs ≡ take i xs ++ (getD xs i 0 ∷ []) = ap (λ (k : ℕ). take k xs) (add-one i) ∙ take-suc xs i 0 h in
-    let a : allBytes (take (i + 1) xs) ≡ allBytes (take i xs) ++ fourBytes (getD xs i 0) = ap allBytes t ∙ all-bytes-append (take i xs) (getD xs i 0 ∷ []) ∙ ap (λ (b : List ℕ). allBytes (take i xs) ++ b) (all-bytes-one (getD xs i 0)) in
-    sets-then out at (at + 4 * i) (allBytes (take i xs)) (fourBytes (getD xs i 0)) (omega arith) ∙ ap (sets out at) (sym a)
+    sets-then out at (at + 4 * i) (allBytes (take i xs)) (fourBytes (getD xs i 0)) (omega arith) ∙ ap (sets out at) (sym (bytes-more xs i h))
 
 -- a section is its count and then its numbers, all of which are stored
 pub section-stored : (xs out one end : List ℕ) (at k i : ℕ) → k ≤ length xs → i ≡ k → one ≡ sets out at (fourBytes k) → end ≡ sets one (at + 4) (allBytes (take i xs))

@@ -6,6 +6,7 @@ use Rattle.rules.specs.Step as rules
 use Rattle.rules.specs.Run as rules-run
 use Rattle.rules.specs.Images as images
 use Rattle.sources.specs.Meaning as sources
+use Rattle.hex.specs.Importing as hex
 use Rattle.machine.specs.declared.Processor.{Processor}
 use Rattle.machine.specs.Views.{processorOf}
 use Rattle.host.specs.Views.{DecodeOutcome}
@@ -14,7 +15,9 @@ use Rattle.host.proofs.kl_decode.Reads as kl-decode
 use Rattle.host.proofs.kl_encode.Reads as kl-encode
 use Rattle.host.proofs.kl_write.Reads as kl-write
 use Rattle.host.proofs.kl_assemble.Reads as kl-assemble
+use Rattle.host.proofs.kl_import.Reads as kl-import
 use Rattle.host.proofs.kl_disassemble.Reads as kl-disassemble
+use Rattle.host.proofs.kl_export.Reads as kl-export
 use Rattle.report.proofs.owned.Reads as owned
 use Rattle.report.proofs.jumps.Reads as jumps
 use Rattle.report.proofs.stores.Reads as stores
@@ -50,13 +53,19 @@ kl-encode-once κs a r q s t = same-by (λ (m : words.Encoded). (m .answer, m .w
 pub kl-write-once : Once kl-write.Post {Out = ℕ × ℕ × List ℕ} (λ κs r s. (r, s .1 .1 .1 .1 .0 .now, s .1 .1 .1 .0 .now))
 kl-write-once κs a r q s t = same-by (λ (m : images.Written). (m .answer, m .length, m .out))
 
--- kl_assemble, with the line, the length and the buffer; kl_disassemble, with the length and the buffer
+-- kl_assemble and kl_import, with the line, the length and the buffer; kl_disassemble and kl_export, with the length and the buffer
 
 pub kl-assemble-once : Once kl-assemble.Post {Out = ℕ × ℕ × ℕ × List ℕ} (λ κs r s. (r, s .1 .1 .0 .now, s .1 .1 .1 .0 .now, s .1 .0 .now))
 kl-assemble-once κs a r q s t = same-by (λ (m : sources.Assembled). (m .answer, m .line, m .length, m .out))
 
+pub kl-import-once : Once kl-import.Post {Out = ℕ × ℕ × ℕ × List ℕ} (λ κs r s. (r, s .1 .1 .1 .1 .0 .now, s .1 .1 .1 .1 .1 .0 .now, s .1 .1 .1 .0 .now))
+kl-import-once κs a r q s t = same-by (λ (m : hex.Imported). (m .answer, m .line, m .length, m .out))
+
 pub kl-disassemble-once : Once kl-disassemble.Post {Out = ℕ × ℕ × List ℕ} (λ κs r s. (r, s .1 .1 .0 .now, s .1 .0 .now))
 kl-disassemble-once κs a r q s t = same-by (λ (m : images.Written). (m .answer, m .length, m .out))
+
+pub kl-export-once : Once kl-export.Post {Out = ℕ × ℕ × List ℕ} (λ κs r s. (r, s .1 .1 .0 .now, s .1 .0 .now))
+kl-export-once κs a r q s t = same-by (λ (m : images.Written). (m .answer, m .length, m .out))
 
 -- report: owned, jumps, stores, widest; kl_owned, kl_jumps, kl_stores, kl_widest
 

@@ -1,9 +1,8 @@
 -- Memories: places without a byte, a front of bytes, and its words.
-use mathlib.Core.Path.{_≡_, refl, sym, ap, _∙_}
+use mathlib.Core.Path.{_≡_, refl, _∙_}
 use mathlib.Core.Bool.{Bool, true, false, cond, _||_}
 use mathlib.Core.List.{List, [], _∷_, _++_, map}
-use Prim.Native.Nat.{ℕ, zero, suc, _+_, _/_, _%_, _≤_, _<_}
-use native.Mathlib.Nat.{div-div-eq-div-mul, div-add-mod, mod-eq-of-lt}
+use Prim.Native.Nat.{ℕ, zero, suc, _+_, _≤_}
 use native.Mathlib.Omega.{arith}
 use borrow.Author.Tests.{lt-ltb, ne-eqb}
 use lib.Dec.{ltb, eqb}
@@ -11,6 +10,7 @@ use lib.ListN.{length, set, take, drop, replicate}
 use lib.Seq.{sets, drop-set-lt, getD-append-add}
 use Rattle.common.specs.Laws.Tests.{clash}
 use Rattle.rules.specs.Images.{field, fields, fourBytes, allBytes}
+use Rattle.images.specs.RoundTrip.{field-first}
 use Rattle.hex.specs.Reading.{none, anyGiven}
 use Rattle.hex.specs.Importing.{past, filled}
 use Rattle.hex.specs.Laws.Bounds.{Below}
@@ -80,21 +80,10 @@ fields-behind xs l p (suc k) =
     let e : length xs + p + 4 ≡ length xs + (p + 4) = omega arith in
     rw (field-behind xs l p, e, fields-behind xs l (p + 4) k) refl
 
-field-four : (x : ℕ) (l : List ℕ) → x < 4294967296 → field (fourBytes x ++ l) 0 ≡ x
-unfolding field
-field-four x l h =
-    let y : x / 65536 ≡ x / 256 / 256 = sym (div-div-eq-div-mul x 256 256) in
-    let z : x / 16777216 ≡ x / 256 / 256 / 256 = sym (div-div-eq-div-mul x 65536 256) ∙ ap (λ (q : ℕ). q / 256) y in
-    let top : x / 256 / 256 / 256 % 256 ≡ x / 256 / 256 / 256 = mod-eq-of-lt (omega arith) in
-    let a = div-add-mod x 256 in
-    let b = div-add-mod (x / 256) 256 in
-    let c = div-add-mod (x / 256 / 256) 256 in
-    rw (y, z, top) (omega arith)
-
 pub fields-front : (ws l : List ℕ) → Below 4294967296 ws → fields (allBytes ws ++ l) 0 (length ws) ≡ ws
 unfolding fields allBytes
 fields-front [] l s = refl
-fields-front (w ∷ ws) l s = rw (field-four w (allBytes ws ++ l) (s .0), fields-behind (fourBytes w) (allBytes ws ++ l) 0 (length ws), fields-front ws l (s .1)) refl
+fields-front (w ∷ ws) l s = rw (field-first w (allBytes ws ++ l) (s .0), fields-behind (fourBytes w) (allBytes ws ++ l) 0 (length ws), fields-front ws l (s .1)) refl
 
 pub bytes-below : (ws : List ℕ) → Below none (allBytes ws)
 unfolding allBytes

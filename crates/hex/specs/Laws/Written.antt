@@ -14,7 +14,7 @@ use Rattle.hex.specs.Exporting.{checksum, fieldsOf, recordOf}
 use Rattle.hex.specs.Laws.Bounds.{Below, below-append, From}
 use Rattle.hex.specs.Laws.Pairs.{one-line, whole-body, length-pairs, pairs-from, pairs-digits, octet-at, octets-at}
 
-sum-append : (xs ys : List ℕ) → sum (xs ++ ys) ≡ sum xs + sum ys
+pub sum-append : (xs ys : List ℕ) → sum (xs ++ ys) ≡ sum xs + sum ys
 unfolding sum
 sum-append [] ys = sym (zero-add (sum ys))
 sum-append (x ∷ xs) ys = let ih = sum-append xs ys in omega arith
@@ -22,6 +22,16 @@ sum-append (x ∷ xs) ys = let ih = sum-append xs ys in omega arith
 checked : (xs : List ℕ) → sum (xs ++ checksum xs ∷ []) % 256 ≡ 0
 unfolding sum
 checked xs = let e : sum (xs ++ checksum xs ∷ []) ≡ sum xs + (checksum xs + 0) = sum-append xs (checksum xs ∷ []) in rw e (omega arith)
+
+-- four bytes before the data, and the checksum
+many : (at type′ : ℕ) (bytes : List ℕ) → length (fieldsOf at type′ bytes ++ checksum (fieldsOf at type′ bytes) ∷ []) ≡ length bytes + 5
+many at type′ bytes = let a = length-append bytes (checksum (fieldsOf at type′ bytes) ∷ []) in omega arith
+
+pub length-record : (at type′ : ℕ) (bytes : List ℕ) → length (recordOf (fieldsOf at type′ bytes)) ≡ 2 * length bytes + 11
+length-record at type′ bytes =
+    let m = many at type′ bytes in
+    let l = length-pairs (fieldsOf at type′ bytes ++ checksum (fieldsOf at type′ bytes) ∷ []) in
+    omega arith
 
 -- what stands in a record of these bytes, and that it passes 60 and 61
 pub record Parts (at type′ : ℕ) (bytes : List ℕ) : Type 0 where
@@ -44,49 +54,43 @@ module _ (at type′ : ℕ) (bytes : List ℕ) (few : length bytes < 256) (low :
   below : Below 256 xs
   below = (few, (omega arith, (omega arith, (kind, below-append 256 bytes (checksum (fieldsOf at type′ bytes) ∷ []) small (omega arith, tt)))))
 
-  many : length xs ≡ length bytes + 5
-  many = let a = length-append bytes (checksum (fieldsOf at type′ bytes) ∷ []) in omega arith
-
   count-is : count r ≡ length bytes
-  count-is = let m = many in octet-at colon xs 0 below (omega arith)
+  count-is = let m = many at type′ bytes in octet-at colon xs 0 below (omega arith)
 
   offset-is : offset r ≡ at
   offset-is =
-      let m = many in
+      let m = many at type′ bytes in
       let h = octet-at colon xs 1 below (omega arith) in
       let l = octet-at colon xs 2 below (omega arith) in
       rw (h, l) (omega arith)
 
   type-is : type r ≡ type′
-  type-is = let m = many in octet-at colon xs 3 below (omega arith)
+  type-is = let m = many at type′ bytes in octet-at colon xs 3 below (omega arith)
 
   data-is : dataOf r ≡ bytes
   data-is =
-      let m = many in
+      let m = many at type′ bytes in
       ap (octets r 4) count-is ∙ octets-at colon xs 4 (length bytes) below (omega arith)
       ∙ take-append-seam bytes (checksum (fieldsOf at type′ bytes) ∷ [])
 
   from-is : From 48 r
   from-is = (omega arith, pairs-from xs)
 
-  length-is : length r ≡ 2 * length bytes + 11
-  length-is = let m = many in let l = length-pairs xs in omega arith
-
   formed-is : formed r ≡ true
   unfolding formed
-  formed-is = rw (pairs-digits xs, count-is) (eq-eqb (length r) (2 * length bytes + 11) length-is)
+  formed-is = rw (pairs-digits xs, count-is) (eq-eqb (length r) (2 * length bytes + 11) (length-record at type′ bytes))
 
   sums-up : sumsUp r ≡ true
   unfolding sumsUp
   sums-up =
-      let m = many in
+      let m = many at type′ bytes in
       let n : length bytes + 5 ≡ length xs = omega arith in
       let all : octets r 0 (length bytes + 5) ≡ xs = octets-at colon xs 0 (length bytes + 5) below (omega arith) ∙ take-all (length bytes + 5) xs (omega arith) in
       rw (count-is, all) (eq-eqb (sum xs % 256) 0 (checked (fieldsOf at type′ bytes)))
 
   pub written : Parts at type′ bytes
   written =
-      let l = length-is in
+      let l = length-record at type′ bytes in
       record {
         count-is = count-is;
         offset-is = offset-is;

@@ -6,8 +6,8 @@ use Prim.Native.Nat.{ℕ, suc, _+_, _*_, _/_, _%_, _^_, _≤_, _<_}
 use native.Mathlib.Omega.{arith}
 use borrow.Author.Tests.{not-false, ltb-true, leb-true, eqb-true, eqb-false}
 use lib.Dec.{ltb, eqb}
-use lib.ListN.{getD, length, take, length-replicate, List·getD-map}
-use lib.Seq.{sets, length-sets}
+use lib.ListN.{getD, length, take, drop, length-replicate, List·getD-map}
+use lib.Seq.{sets, length-sets, take-append-seam, drop-append-seam}
 use Rattle.common.specs.Answers as answer
 use Rattle.common.specs.Tables.{NoneHolds}
 use Rattle.rules.specs.State.{State}
@@ -17,12 +17,12 @@ use Rattle.images.specs.Sections.{written}
 use Rattle.images.specs.RoundTrip.{read-again}
 use Rattle.hex.specs.Records.{Line, lines, body, type, dataOf, data-type}
 use Rattle.hex.specs.Reading.{room, none, Said, nothing, address, recordVerdict, withRecord, Reading, says, refused, from, reading}
-use Rattle.hex.specs.Importing.{past, filled, wordsOf, endChecks, Imported, import}
+use Rattle.hex.specs.Importing.{past, filled, wordsOf, endChecks, Imported, accepted, import}
 use Rattle.hex.specs.Theorems.Numbers.{says-not, import-done, import-accepted, import-fault, refused-exactly}
 
 -- ---- the words of a memory
 
-past-most : (l : List ℕ) → past l ≤ length l
+pub past-most : (l : List ℕ) → past l ≤ length l
 unfolding past
 past-most [] = omega arith
 past-most (x ∷ xs) = go (eqb (past xs) 0) (ltb x none) (past-most xs)
@@ -51,7 +51,7 @@ field-small l p =
     at : (i : ℕ) → getD (map filled l) i 0 < 256
     at i = let e : getD (map filled l) i 0 ≡ filled (getD l i none) = List·getD-map filled l i none in rw e (filled-small (getD l i none))
 
-length-words : (memory : List ℕ) → length (wordsOf memory) ≡ past memory / 4
+pub length-words : (memory : List ℕ) → length (wordsOf memory) ≡ past memory / 4
 unfolding wordsOf
 length-words memory = length-fields (map filled memory) 0 (past memory / 4)
 
@@ -134,6 +134,18 @@ module _ (text regs : List ℕ) (entry : ℕ) (out : List ℕ) (done : import te
         room-is = leb-true (length (imageBytes words regs entry)) (length out) (not-false _ (h .1 .1 .1 .1 .0));
       }
 
+  whole : import text regs entry out ≡ accepted words regs entry out
+  whole = import-accepted text regs entry out (done-says .all) (done-says .read) done
+
+  -- the image of the words stands at the front, and beyond it what the buffer held
+  pub image-is : take (import text regs entry out .length) (import text regs entry out .out) ≡ imageBytes words regs entry
+  image-is =
+      ap (λ (x : Imported). take (x .length) (x .out)) whole
+      ∙ take-append-seam (imageBytes words regs entry) (drop (length (imageBytes words regs entry)) out)
+
+  pub rest-kept : drop (import text regs entry out .length) (import text regs entry out .out) ≡ drop (import text regs entry out .length) out
+  rest-kept = rw whole (drop-append-seam (imageBytes words regs entry) (drop (length (imageBytes words regs entry)) out))
+
   -- over any memories of one length that have room for the words, in either mode
   pub imported-loads : (strict : Bool) (old : State) → length regs ≡ 16 → ((i : ℕ) → i < length regs → getD regs i 0 < 2 ^ 32)
       → length words ≤ length (old .words) → length (old .owners) ≡ length (old .words) → length (old .jumpers) ≡ length (old .words)
@@ -141,7 +153,6 @@ module _ (text regs : List ℕ) (entry : ℕ) (out : List ℕ) (done : import te
       → load strict (take (import text regs entry out .length) (import text regs entry out .out)) old ≡ record { answer = answer.done; state = loaded strict words regs entry old }
   imported-loads strict old sixteen small enough o j w r =
       let f = fits in
-      let whole = import-accepted text regs entry out (done-says .all) (done-says .read) done in
       let again = read-again strict words regs entry out old (f .least) (f .most) (words-small (done-says .all .memory)) sixteen small (f .below) (f .room-is) enough o j w r in
       let wrote = written words regs entry out (f .least) (f .most) (f .below) (f .room-is) in
       rw whole (rw wrote at (again .1))

@@ -13,7 +13,7 @@ use Rattle.common.specs.Tables.{firstOf, Exactly, NoneHolds}
 use Rattle.common.specs.Laws.TableLaws.{nonzero, on-its-condition, done-otherwise}
 use Rattle.hex.specs.Records.{Line, line, lines, body}
 use Rattle.hex.specs.Reading.{Said, nothing, recordChecks, recordVerdict, withRecord, Reading, says, refused, from, reading}
-use Rattle.hex.specs.Importing.{endChecks, endVerdict, refusal, wordsOf, accepted, imageOf, import}
+use Rattle.hex.specs.Importing.{Imported, endChecks, endVerdict, refusal, wordsOf, accepted, imageOf, import}
 use Rattle.hex.specs.Exporting.{exportChecks, exportVerdict, export}
 
 -- ---- the first record at fault
@@ -135,6 +135,19 @@ module _ (text regs : List ℕ) (entry : ℕ) (out : List ℕ) where
   unfolding import
   import-fault n k f = rw (refused-exactly text n k .1 f) refl
 
+  line-none : (s : Said) (b : Bool) → cond b (accepted (wordsOf (s .memory)) regs entry out) (refusal (endVerdict s regs entry out) 0 out) .line ≡ 0
+  line-none s true = refl
+  line-none s false = refl
+
+  -- a record is told exactly where it is the first at fault
+  pub import-record : (n k : ℕ) → 1 ≤ k → ((import text regs entry out .answer ≡ n) × (import text regs entry out .line ≡ k)) ↔ FirstFault text n k
+  unfolding import
+  import-record n k c = (λ h. to (reading text) refl (h .0) (h .1), λ f. let e = import-fault n k f in (ap (λ (x : Imported). x .answer) e, ap (λ (x : Imported). x .line) e))
+    where
+      to : (m : Reading) → reading text ≡ m → imageOf m regs entry out .answer ≡ n → imageOf m regs entry out .line ≡ k → FirstFault text n k
+      to (refused i j) e a l = refused-exactly text n k .0 (e ∙ ap (λ (x : ℕ). refused x j) a ∙ ap (refused n) l)
+      to (says s) e a l = let z = line-none s (eqb (endVerdict s regs entry out) answer.done) in absurd (omega (arith, z, l))
+
   -- where no record is at fault: the answer of the first check at the end, exactly
   module _ (s : Said) (said : reading text ≡ says s) where
     import-end : import text regs entry out .answer ≡ firstOf (endChecks s regs entry out)
@@ -145,6 +158,10 @@ module _ (text regs : List ℕ) (entry : ℕ) (out : List ℕ) where
             → cond b (accepted (wordsOf (s .memory)) regs entry out) (refusal (endVerdict s regs entry out) 0 out) .answer ≡ endVerdict s regs entry out
         go true e = sym (eqb-true (endVerdict s regs entry out) answer.done e)
         go false e = refl
+
+    pub import-line : import text regs entry out .line ≡ 0
+    unfolding import
+    import-line = rw said (line-none s (eqb (endVerdict s regs entry out) answer.done))
 
     pub import-number : (n : ℕ) → (n ≡ answer.done → ⊥) → (import text regs entry out .answer ≡ n) ↔ Exactly (endChecks s regs entry out) n
     import-number n h = on-its-condition (import text regs entry out .answer) (endChecks s regs entry out) import-end n h
@@ -177,13 +194,17 @@ module _ (text regs : List ℕ) (entry : ℕ) (out : List ℕ) where
 -- ---- exporting
 
 module _ (words out : List ℕ) where
-  export-answer : export words out .answer ≡ firstOf (exportChecks words out)
-  unfolding export exportVerdict
-  export-answer = go (eqb (exportVerdict words out) answer.done) refl
+  pub export-verdict : export words out .answer ≡ exportVerdict words out
+  unfolding export
+  export-verdict = go (eqb (exportVerdict words out) answer.done) refl
     where
       go : (b : Bool) → eqb (exportVerdict words out) answer.done ≡ b → export words out .answer ≡ exportVerdict words out
       go true e = rw e (sym (eqb-true (exportVerdict words out) answer.done e))
       go false e = rw e refl
+
+  export-answer : export words out .answer ≡ firstOf (exportChecks words out)
+  unfolding exportVerdict
+  export-answer = export-verdict
 
   pub export-number : (n : ℕ) → (n ≡ answer.done → ⊥) → (export words out .answer ≡ n) ↔ Exactly (exportChecks words out) n
   export-number n h = on-its-condition (export words out .answer) (exportChecks words out) export-answer n h

@@ -4,24 +4,18 @@ use mathlib.Core.List.{List}
 use Prim.Native.Nat.{ℕ, _%_, _^_, _≤_, _<_}
 use native.Mathlib.Omega.{arith}
 use borrow.Author.Tests.{le-leb, lt-ltb, ne-eqb}
-use lib.ListN.{getD, length, take, drop}
-use lib.Seq.{take-append-seam}
+use lib.ListN.{getD, length, take}
 use Rattle.common.specs.Answers as answer
 use Rattle.common.specs.Tables.{firstOf}
-use Rattle.rules.specs.Images.{imageBytes, over, Written}
+use Rattle.rules.specs.Images.{imageBytes, Written}
 use Rattle.hex.specs.Importing.{past, endChecks, endVerdict, accepted, import}
-use Rattle.hex.specs.Exporting.{textOf, exportChecks, exportVerdict, export}
+use Rattle.hex.specs.Exporting.{textOf, export}
+use Rattle.hex.specs.Theorems.Exported.{exported, text-is}
 use Rattle.hex.specs.Theorems.ReadBack.{memoryOf, text-says, past-is, words-are}
-
--- the text, and beyond it what the buffer held
-pub exported : (words out : List ℕ) → 1 ≤ length words → length words ≤ 2048 → length (textOf words) ≤ length out
-    → export words out ≡ record { answer = answer.done; length = length (textOf words); out = over (textOf words) out }
-unfolding export exportVerdict exportChecks firstOf
-exported words out l m r = simp (le-leb 1 (length words) l, le-leb (length words) 2048 m, le-leb (length (textOf words)) (length out) r)
 
 module _ (words regs : List ℕ) (entry : ℕ) (out : List ℕ) (least : 1 ≤ length words) (most : length words ≤ 2048)
     (small : (i : ℕ) → i < length words → getD words i 0 < 2 ^ 32) (below : entry < length words) (fits : length (imageBytes words regs entry) ≤ length out) where
-  text-imported : import (textOf words) regs entry out ≡ accepted words regs entry out
+  pub text-imported : import (textOf words) regs entry out ≡ accepted words regs entry out
   unfolding import endVerdict endChecks firstOf
   text-imported =
       let p = past-is words most in
@@ -33,9 +27,5 @@ module _ (words regs : List ℕ) (entry : ℕ) (out : List ℕ) (least : 1 ≤ l
   pub imported-back : (text : List ℕ) → length (textOf words) ≤ length text
       → (export words text .answer ≡ answer.done) × (import (take (export words text .length) (export words text .out)) regs entry out ≡ accepted words regs entry out)
   imported-back text room =
-      let e = exported words text least most room in (
-        ap (λ (w : Written). w .answer) e,
-        ap (λ (w : Written). import (take (w .length) (w .out)) regs entry out) e
-            ∙ ap (λ (t : List ℕ). import t regs entry out) (take-append-seam (textOf words) (drop (length (textOf words)) text))
-            ∙ text-imported,
-      )
+      let z : export words text .answer ≡ answer.done = ap (λ (w : Written). w .answer) (exported words text (record { least = least; most = most; room = room })) in
+      (z, ap (λ (t : List ℕ). import t regs entry out) (text-is words text z) ∙ text-imported)
