@@ -3,7 +3,7 @@ use mathlib.Core.Bool.{Bool, cond, not}
 use mathlib.Core.List.{List, [], _∷_}
 use Prim.Native.Nat.{ℕ, zero, suc, _+_, _-_, _%_}
 use lib.Dec.{eqb}
-use lib.ListN.{length}
+use lib.ListN.{getD, length}
 use Rattle.common.specs.Answers as answer
 use Rattle.common.specs.Tables.{Check, on, firstOf}
 use Rattle.common.specs.Services.{serviceCount, isServiceNumber}
@@ -25,6 +25,11 @@ noRow = record { owned = 0; jump = 0; store = 0 }
 -- what the row of compartment c should be: "each row equal to the count over the tags"
 unfoldable pub countsOf : State → ℕ → Row
 countsOf s c = record { owned = ownedCount s c; jump = jumpCount s c; store = storeCount s c }
+
+-- what the first k rows say is owned, added up
+unfoldable pub ownedBelow : ℕ → List Row → ℕ
+ownedBelow zero rows = 0
+ownedBelow (suc k) rows = ownedBelow k rows + getD rows k noRow .owned
 
 -- ---- "Each step moves a row by what its tag changes add or take, modulo 2^32"
 

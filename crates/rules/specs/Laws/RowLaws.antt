@@ -62,6 +62,9 @@ moved-on a b c x h =
 pub moved-right : (before after : ℕ) → before < 4294967296 → after < 4294967296 → movedBy before after before ≡ after
 moved-right before after h k = moved-modulo before after before h ∙ omega arith
 
+pub row-is : (o j w o′ j′ w′ : ℕ) → o ≡ o′ → j ≡ j′ → w ≡ w′ → _≡_ {A = Row} (record { owned = o; jump = j; store = w }) (record { owned = o′; jump = j′; store = w′ })
+row-is o j w o′ j′ w′ a b c = simp (a, b, c)
+
 -- ---- all rows
 
 pub length-moved : (before after : ℕ → Row) (k : ℕ) (rows : List Row) → length (movedFrom before after k rows) ≡ length rows

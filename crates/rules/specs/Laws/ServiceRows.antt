@@ -29,7 +29,7 @@ use Rattle.rules.specs.Step.{mapFrom, below, owned, joined, joinedServic
 use Rattle.rules.specs.Counts.{countFrom, addressCount, ownedCount, jumpCount, storeCount}
 use Rattle.rules.specs.Laws.CountLaws.{count-same, count-none, count-one, count-shift, owning, having, differs, differing, Joins, joins-add, joins-keep, Passed, pass-gains, pass-loses, pass-keeps}
 use Rattle.rules.specs.Rows.{Row, countsOf, moved}
-use Rattle.rules.specs.Laws.RowLaws.{none-moved, settled, gained, gain-moves, settle-moves}
+use Rattle.rules.specs.Laws.RowLaws.{row-is, none-moved, settled, gained, gain-moves, settle-moves}
 
 -- ---- steps that change no owner and no set I or W
 
@@ -44,7 +44,7 @@ read-rows s rows = none-moved (countsOf s) (countsOf (readAdded s)) rows (λ d. 
 -- ---- the counts of a state that 14 lets pass, list by list
 
 -- the services that c owns: no tag says so
-abbrev servicesOwned : State → ℕ → ℕ
+abbrev pub servicesOwned : State → ℕ → ℕ
 servicesOwned s c = countFrom (λ x. not (inMemory s x) && owns s c x) isolate (serviceCount (s .cpu .strict))
 
 module _ (s : State) (f : formed s ≡ true) (c : ℕ) where
@@ -160,9 +160,6 @@ module _ (s t : State) (n-same : t .cpu .n ≡ s .cpu .n) (m-same : t .cpu .stri
 place-owner : (s : State) (c x : ℕ) → x < s .cpu .n → owns s c x ≡ true → getD (s .owners) x 0 ≡ c
 unfolding owns ownerAt inMemory
 place-owner s c x h e = let k : ownerAt s x ≡ c = eqb-true _ _ (both (hasOwner s x) (eqb (ownerAt s x) c) e .1) in simp (lt-ltb x (s .cpu .n) h) at k
-
-row-is : (o j w o′ j′ w′ : ℕ) → o ≡ o′ → j ≡ j′ → w ≡ w′ → _≡_ {A = Row} (record { owned = o; jump = j; store = w }) (record { owned = o′; jump = j′; store = w′ })
-row-is o j w o′ j′ w′ a b c = simp (a, b, c)
 
 module _ (s : State) (p : passed.Passes s) (out : inMemory s (s .cpu .pc) ≡ false) where
   f : formed s ≡ true
