@@ -1,6 +1,6 @@
 -- Counts of addresses, place by place: what one change of the owners or of the sets of a list adds or takes.
 use mathlib.Core.Path.{_≡_, refl, sym, ap, ap₂, _∙_, subst}
-use mathlib.Core.Bool.{Bool, true, false, cond, not, or-true, or-false}
+use mathlib.Core.Bool.{Bool, true, false, cond, _&&_, not, or-true, or-false}
 use mathlib.Core.List.{List}
 use mathlib.Core.Logic.{_≢_, _⊎_, ⊎-elim}
 use Prim.Native.Nat.{ℕ, zero, suc, _+_, _*_, _/_, _%_, _^_, _≤_, _<_, max}
@@ -9,7 +9,8 @@ use native.Mathlib.Nat.{zero-add, add-zero, pow-suc, suc-add}
 use native.Mathlib.Decide.{ℕ-discrete}
 use borrow.Author.Tests.{eqb-true, eqb-false, eq-eqb, ne-eqb, lt-ltb, ltb-true, ltb-false}
 use lib.Dec.{eqb, ltb}
-use lib.ListN.{getD}
+use lib.ListN.{getD, length, set}
+use lib.Seq.{getD-set-same, getD-set-other}
 use lib.Bits.{bitOr, or-step, or-zero-r}
 use lib.Pow.{shr-shr}
 use Rattle.common.specs.Instructions.{bit}
@@ -94,6 +95,35 @@ differing n l m = countFrom (λ x. differs (getD l x 0) (getD m x 0)) 0 n
 pub differing-most : (n : ℕ) (l m : List ℕ) → differing n l m ≤ n
 unfolding differing
 differing-most n l m = count-most _ n
+
+-- lists that are the same at those places
+pub differing-none : (n : ℕ) (l : List ℕ) → differing n l l ≡ 0
+unfolding differing
+differing-none n l = count-none _ n (λ x h. simp (eq-eqb (getD l x 0) (getD l x 0) refl))
+
+-- a place that is written over, having been as it was
+pub differing-set : (n : ℕ) (l m : List ℕ) (x v : ℕ) → x < n → x < length m → getD m x 0 ≡ getD l x 0 → differing n l (set m x v) ≡ differing n l m + bit (differs (getD m x 0) v)
+unfolding differing
+differing-set n l m x v h k e =
+    sym (ap (λ (d : ℕ). differing n l m + d) (sym (count-one here x n h (λ y ne. simp (ne-eqb y x ne)) ∙ simp (eq-eqb x x refl)))
+    ∙ count-sum (λ y. differs (getD l y 0) (getD m y 0)) here (λ y. differs (getD l y 0) (getD (set m x v) y 0)) n (λ y g. go y (ℕ-discrete y x)))
+  where
+    here : ℕ → Bool
+    here y = eqb y x && differs (getD m x 0) v
+
+    go : (y : ℕ) → Dec (y ≡ x) → bit (differs (getD l y 0) (getD m y 0)) + bit (here y) ≡ bit (differs (getD l y 0) (getD (set m x v) y 0))
+    go y (yes q) =
+        subst (λ (z : ℕ). bit (differs (getD l z 0) (getD m z 0)) + bit (here z) ≡ bit (differs (getD l z 0) (getD (set m x v) z 0))) (sym q)
+        (simp (getD-set-same m x v 0 k, ← e, eq-eqb (getD m x 0) (getD m x 0) refl, eq-eqb x x refl, zero-add))
+    go y (no ne) = simp (getD-set-other m x y v 0 ne, ne-eqb y x ne, add-zero)
+
+-- one change after another, of which no place has both
+pub differing-then : (n : ℕ) (l m o : List ℕ) → ((x : ℕ) → x < n → (getD m x 0 ≡ getD l x 0) ⊎ (getD o x 0 ≡ getD m x 0)) → differing n l o ≡ differing n l m + differing n m o
+unfolding differing
+differing-then n l m o h = sym (count-sum _ _ _ n (λ x g. go (getD l x 0) (getD m x 0) (getD o x 0) (h x g)))
+  where
+    go : (a b c : ℕ) → (b ≡ a) ⊎ (c ≡ b) → bit (differs a b) + bit (differs b c) ≡ bit (differs a c)
+    go a b c = ⊎-elim (λ (e : b ≡ a). simp (e, eq-eqb a a refl, zero-add)) (λ (e : c ≡ b). simp (e, eq-eqb b b refl, add-zero))
 
 -- ---- a number that joins a set
 

@@ -5,7 +5,7 @@ use mathlib.Core.List.{List, [], _∷_}
 use mathlib.Core.Logic.{_≢_, _⊎_, inl, inr}
 use Prim.Native.Nat.{ℕ, zero, suc, _+_, _-_, _≤_, _<_, min}
 use native.Mathlib.Omega.{arith}
-use native.Mathlib.Nat.{add-zero, zero-add, not-suc-le-zero, le-of-suc-le-suc}
+use native.Mathlib.Nat.{add-zero}
 use native.Mathlib.Decide.{ℕ-discrete}
 use borrow.Author.Tests.{lt-ltb, le-ltb, ltb-true, ltb-false, eqb-true, eq-eqb, le-leb}
 use lib.Dec.{ltb, leb, eqb}
@@ -24,7 +24,7 @@ use Rattle.rules.specs.Checks.{setA, setJ, setS}
 use Rattle.rules.specs.Laws.Tested.{formed}
 use Rattle.rules.specs.Laws.FormLaws.{Lent, lent-memories, numbers-good, outside}
 use Rattle.rules.specs.Laws.Passed as passed
-use Rattle.rules.specs.Laws.TagLaws.{length-map, getD-map}
+use Rattle.rules.specs.Laws.TagLaws.{length-map, getD-map, beyond}
 use Rattle.rules.specs.Step.{mapFrom, below, owned, joined, joinedServices, joinAt, ranInstruction, isolated, jumpAdded, storeAdded, readAdded}
 use Rattle.rules.specs.Counts.{countFrom, addressCount, ownedCount, jumpCount, storeCount}
 use Rattle.rules.specs.Laws.CountLaws.{count-same, count-none, count-one, count-shift, owning, having, differs, differing, Joins, joins-add, joins-keep, Passed, pass-gains, pass-loses, pass-keeps}
@@ -89,11 +89,6 @@ module _ (s : State) (f : formed s ≡ true) (c : ℕ) where
       ∙ add-zero _
 
 -- ---- lists that a service changes
-
-beyond : (l : List ℕ) (x : ℕ) → length l ≤ x → getD l x 0 ≡ 0
-beyond [] x h = refl
-beyond (y ∷ l) zero h = absurd (not-suc-le-zero h)
-beyond (y ∷ l) (suc x) h = beyond l x (le-of-suc-le-suc h)
 
 -- where a number joins by place
 map-joins : (n k : ℕ) (t : ℕ → Bool) (l : List ℕ) → Joins n k l (mapFrom (λ x v. cond (t x) (insert v k) v) 0 l)
