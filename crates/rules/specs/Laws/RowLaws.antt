@@ -123,6 +123,10 @@ module _ (c : ℕ) (rows : List Row) where
   unfolding lost
   lost-none = ap (λ (x : ℕ). set rows c (record { owned = x; jump = getD rows c noRow .jump; store = getD rows c noRow .store })) (moved-same 0 0 (getD rows c noRow .owned) refl) ∙ set-getD rows c noRow
 
+  pub gained-none : gained c 0 0 0 rows ≡ rows
+  unfolding gained
+  gained-none = simp (moved-same 0 0 (getD rows c noRow .owned) refl, moved-same 0 0 (getD rows c noRow .jump) refl, moved-same 0 0 (getD rows c noRow .store) refl) (set-getD rows c noRow)
+
 -- one compartment gains
 pub gain-moves : (before after : ℕ → Row) (rows : List Row) (c k j t : ℕ)
     → after c ≡ record { owned = before c .owned + k; jump = before c .jump + j; store = before c .store + t }
