@@ -23,6 +23,7 @@ use Rattle.rules.specs.Step.{Stepped, commit, step}
 use Rattle.rules.specs.Run.{Ran, oneMore, run}
 use Rattle.rules.specs.Images.{loadChecks, loadVerdict, imageChecks, registerChecks, entryChecks, load, loaded, notLoaded, wordsOf, regsOf, entryIn, sizeIn}
 use Rattle.rules.specs.Laws.Tested.{formed}
+use Rattle.rules.specs.Laws.TestedRows.{form-row}
 use Rattle.rules.specs.Laws.FormLaws.{n-most}
 use Rattle.rules.specs.Laws.StepLaws.{answer-is}
 use Rattle.rules.specs.Laws.Passed.{Passes, passes}
@@ -60,6 +61,11 @@ module _ (rows : List Row) where
   too-few : length rows ≢ numbers → wrongRows rows ≡ true
   unfolding wrongRows
   too-few n = simp (ne-eqb (length rows) numbers n)
+
+  -- 14, whatever the table
+  pub step-14 : (s : State) → formed s ≡ false → lentStep s rows ≡ record { answer = answer.bad-form; state = s; rows = rows }
+  unfolding lentStep lentVerdict lentChecks afterFirst checks firstOf
+  step-14 s f = let e : badForm s ≡ true = form-row s ∙ ap not f in simp e
 
   -- 14 comes before it, and all others after it
   pub step-18 : (s : State) → length rows ≢ numbers → lentStep s rows ≡ record { answer = cond (badForm s) answer.bad-form answer.bad-rows; state = s; rows = rows }
