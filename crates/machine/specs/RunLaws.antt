@@ -15,13 +15,16 @@ use Rattle.rules.specs.State.{State, inMemory, hasOwner, ownerAt, jumpersAt, wr
 use Rattle.rules.specs.Laws.Tested.{formed}
 use Rattle.rules.specs.Laws.TestedRows.{if-formed}
 use Rattle.rules.specs.Step.{Stepped, step}
+use Rattle.rules.specs.Run.{Ran, run}
 use Rattle.rules.specs.Counts.{addressCount, ownedCount, jumpCount, storeCount}
 use Rattle.rules.specs.Rows.{Row, countsOf, moved, LentStepped, lentStep, LentRan, lentRun}
 use Rattle.rules.specs.Laws.RowLaws.{none-moved, settled}
-use Rattle.rules.specs.Theorems.Rows.{step-14, step-18, lent-step, length-stepped, stopped-rows, lent-goes-on, lent-ends}
+use Rattle.rules.specs.Theorems.Rows.{step-14, step-18, lent-step, length-stepped, stopped-rows, lent-goes-on, lent-ends, told as ran-told, same-run}
 use Rattle.rules.specs.Theorems.Rest.{step-keeps-rest}
 use Rattle.rules.specs.Theorems.Formed.{step-formed}
 use Rattle.rules.specs.Laws.FormLaws.{n-most}
+use Rattle.rows.specs.Views.{table}
+use Rattle.rows.specs.TableLaws.{length-table}
 use Rattle.moves.specs.declared.Move.{Move}
 use Rattle.rights.specs.Rights.{free}
 use Rattle.rights.specs.Arrivals.{prevOf, jumpedOf, unasked, unasked-far, unasked-prev, unasked-jumped}
@@ -240,10 +243,22 @@ module _ (s₀ : State) (rows₀ rows : List Row) (strict : Bool) (budget n next
       (simp (ew, ec, ep, ea, er) g, omega arith)
 
 -- one step is a run of budget 1
-pub one-step : (s : State) (rows : List Row) (r : LentRan) → r ≡ lentRun 1 s rows → record { answer = r .answer; state = r .state; rows = r .rows } ≡ lentStep s rows
+pub one-lent-step : (s : State) (rows : List Row) (r : LentRan) → r ≡ lentRun 1 s rows → record { answer = r .answer; state = r .state; rows = r .rows } ≡ lentStep s rows
 unfolding lentRun
-one-step s rows r e = ap (λ (x : LentRan). record { answer = x .answer; state = x .state; rows = x .rows }) e ∙ go (eqb (lentStep s rows .answer) answer.done) refl
+one-lent-step s rows r e = ap (λ (x : LentRan). record { answer = x .answer; state = x .state; rows = x .rows }) e ∙ go (eqb (lentStep s rows .answer) answer.done) refl
   where
     go : (b : Bool) → eqb (lentStep s rows .answer) answer.done ≡ b → record { answer = lentRun 1 s rows .answer; state = lentRun 1 s rows .state; rows = lentRun 1 s rows .rows } ≡ lentStep s rows
     go true f = simp f (ap (λ (a : ℕ). record { answer = a; state = lentStep s rows .state; rows = lentStep s rows .rows }) (sym (eqb-true _ _ f)))
     go false f = simp f
+
+pub one-step : (s : State) (r : Ran) → r ≡ run 1 s → record { answer = r .answer; state = r .state } ≡ step s
+unfolding run
+one-step s r e = ap (λ (x : Ran). record { answer = x .answer; state = x .state }) e ∙ go (eqb (step s .answer) answer.done) refl
+  where
+    go : (b : Bool) → eqb (step s .answer) answer.done ≡ b → record { answer = run 1 s .answer; state = run 1 s .state } ≡ step s
+    go true f = simp f (ap (λ (a : ℕ). record { answer = a; state = step s .state }) (sym (eqb-true _ _ f)))
+    go false f = simp f
+
+-- a run over a table of which nobody asks is the run without one
+pub unseen : (budget : ℕ) (s : State) (rows : List (List ℕ)) → length rows ≡ numbers → (r : LentRan) → r ≡ lentRun budget s (table rows) → ran-told r ≡ run budget s
+unseen budget s rows n r e = ap ran-told e ∙ same-run budget s (table rows) (length-table rows ∙ n)

@@ -5,9 +5,9 @@ use Rattle.machine.proofs.Processor.step.Statement.{statement}
 use Rattle.machine.proofs.Processor.step.Tie as tie
 
 returns : tie.Need-returns
-returns c = one-step _ _ _ (c .before .before .before .before .before .before .before .before .before .before .before .before .run .ensures)
+returns c = one-step _ _ (c .before .before .before .before .before .before .before .before .before .before .before .run .ensures)
 
 pub step-spec : {M : Type 1} → statement M
 step-spec =
     tie.close
-    (tie.spec _ (λ c. search needs) (λ c. search needs) (λ c. search needs) (λ c. search needs) (λ c. search needs) (λ c. search needs) returns)
+    (tie.spec _ (λ c. search needs) (λ c. search needs) (λ c. search needs) (λ c. search needs) (λ c. search needs) returns)
