@@ -38,6 +38,11 @@ table-row [] i d h = absurd (not-suc-le-zero h)
 table-row (r ∷ rs) zero d h = refl
 table-row (r ∷ rs) (suc i) d h = table-row rs i d (le-of-suc-le-suc h)
 
+pub no-table-row : (rows : List (List ℕ)) (i : ℕ) → length rows ≤ i → noRow ≡ getD (table rows) i noRow
+no-table-row [] i h = refl
+no-table-row (r ∷ rs) zero h = absurd (not-suc-le-zero h)
+no-table-row (r ∷ rs) (suc i) h = no-table-row rs i (le-of-suc-le-suc h)
+
 module _ (rows : List (List ℕ)) (i : ℕ) where
   -- a number that has no row
   pub not-lost : (k : ℕ) → length rows ≤ i → table rows ≡ lost i k (table rows)

@@ -2,9 +2,9 @@
 ghost use mathlib.Core.Path.{_≡_};
 ghost use mathlib.Core.Bool.{cond};
 ghost use lib.Dec.{eqb};
-ghost use lib.ListN.{length};
+ghost use lib.ListN.{getD, length};
 ghost use Rattle.rules.specs.Compartments.{numbers};
-ghost use Rattle.rules.specs.Rows.{movedBy, freshRow, freshRows};
+ghost use Rattle.rules.specs.Rows.{noRow, movedBy, freshRow, freshRows};
 ghost use Rattle.rules.specs.Laws.RowLaws.{lost, gained, settled};
 ghost use Rattle.rows.specs.Views.{rowOf, table};
 
@@ -60,6 +60,17 @@ pub fn settle(rows: &mut [Row], from: u32, to: u32, k: u32, j: u32, t: u32)
 {
     lose(rows, from, k);
     gain(rows, to, k, j, t);
+}
+
+// The row of a compartment; a number that has no row has nothing.
+pub fn row_at(rows: &[Row], number: u32) -> Row
+    ensures { λ r. ⌜ rowOf r ≡ getD (table (now (rows .entry))) number noRow ⌝ }
+{
+    let i = number as usize;
+    if i < rows.len() {
+        return rows[i];
+    }
+    [0, 0, 0]
 }
 
 // A row as the loader fills it.
