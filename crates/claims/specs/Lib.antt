@@ -17,5 +17,6 @@ pub mod CodeExport
 pub mod CodeImport
 pub mod CodeCounts
 pub mod CodePrinted
+pub mod Rows
 pub mod Checking
 pub mod Once

@@ -4,6 +4,8 @@ use Prim.Native.Nat.{ℕ}
 use Rattle.rules.specs.State as rules
 use Rattle.rules.specs.Step as step
 use Rattle.rules.specs.Run as run
+use Rattle.rules.specs.Rows as rows
+use Rattle.rows.specs.Views.{table}
 use Rattle.machine.specs.declared.Processor.{Processor}
 use Rattle.machine.specs.declared.Stepped.{Stepped}
 use Rattle.machine.specs.declared.Ran.{Ran}
@@ -24,3 +26,10 @@ steppedOf r words owners jumpers writers readers = record { answer = r .answer; 
 
 abbrev pub ranOf : Ran → List ℕ → List ℕ → List ℕ → List ℕ → List ℕ → run.Ran
 ranOf r words owners jumpers writers readers = record { answer = r .answer; state = stateOf (r .cpu) words owners jumpers writers readers; count = r .count }
+
+-- and in the table that they are lent
+abbrev pub steppedWith : Stepped → List ℕ → List ℕ → List ℕ → List ℕ → List ℕ → List (List ℕ) → rows.LentStepped
+steppedWith r words owners jumpers writers readers lent = record { answer = r .answer; state = stateOf (r .cpu) words owners jumpers writers readers; rows = table lent }
+
+abbrev pub ranWith : Ran → List ℕ → List ℕ → List ℕ → List ℕ → List ℕ → List (List ℕ) → rows.LentRan
+ranWith r words owners jumpers writers readers lent = record { answer = r .answer; state = stateOf (r .cpu) words owners jumpers writers readers; rows = table lent; count = r .count }

@@ -2,9 +2,13 @@
 ghost use mathlib.Core.Path.{_≡_};
 ghost use Rattle.rules.specs.Step.{step};
 ghost use Rattle.rules.specs.Run.{run};
+ghost use Rattle.rules.specs.Rows.{lentStep, lentRun};
 ghost use Rattle.rights.specs.Arrivals.{prevOf, jumpedOf};
-ghost use Rattle.machine.specs.Views.{stateOf, steppedOf, ranOf};
+ghost use Rattle.rows.specs.Views.{table};
+ghost use Rattle.machine.specs.Views.{stateOf, steppedOf, ranOf, steppedWith, ranWith};
 use rights::arrival;
+use rows::ROWS;
+use rows::Row;
 
 #[repr(C)]
 pub struct Processor {
@@ -70,10 +74,10 @@ fn ended(
 }
 
 impl Processor {
-    // Steps until the first nonzero answer or until the budget is used. What 14 looks at cannot change on the way, so it is
+    // Steps until the first nonzero answer or until the budget is used. What 14 and 18 look at cannot change on the way, so it is
     // looked at before the first step. The record is taken apart, and the steps at memory words have a loop of their own inside the
     // one over services, so that they keep their numbers where they are cheap.
-    pub fn run(
+    pub fn run_rows(
         self,
         words: &mut [u32],
         owners: &mut [u32],
@@ -81,8 +85,9 @@ impl Processor {
         writers: &mut [u64],
         readers: &mut [u64],
         budget: u32,
+        rows: &mut [Row],
     ) -> Ran
-        ensures { λ r. ⌜ ranOf r (now (words .exit)) (now (owners .exit)) (now (jumpers .exit)) (now (writers .exit)) (now (readers .exit)) ≡ run budget (stateOf self (now (words .entry)) (now (owners .entry)) (now (jumpers .entry)) (now (writers .entry)) (now (readers .entry))) ⌝ }
+        ensures { λ r. ⌜ ranWith r (now (words .exit)) (now (owners .exit)) (now (jumpers .exit)) (now (writers .exit)) (now (readers .exit)) (now (rows .exit)) ≡ lentRun budget (stateOf self (now (words .entry)) (now (owners .entry)) (now (jumpers .entry)) (now (writers .entry)) (now (readers .entry))) (table (now (rows .entry))) ⌝ }
     {
         let mut count: u32 = 0;
         if budget == 0 {
@@ -112,6 +117,13 @@ impl Processor {
             return Ran {
                 cpu: self,
                 answer: answers::BAD_FORM,
+                count,
+            };
+        }
+        if rows.len() != ROWS {
+            return Ran {
+                cpu: self,
+                answer: answers::BAD_ROWS,
                 count,
             };
         }
@@ -150,12 +162,13 @@ impl Processor {
             if budget <= count {
                 break;
             }
+            let caller = arrival::prev_of(arrival);
             let s = service::serve(
                 &regs,
                 strict,
                 n,
                 pc,
-                arrival::prev_of(arrival),
+                caller,
                 arrival::jumped_of(arrival),
                 next,
                 services,
@@ -169,6 +182,7 @@ impl Processor {
             if answer != answers::DONE {
                 return ended(n, strict, regs, pc, arrival, next, services, answer, count);
             }
+            rows::settle(rows, caller, s.to, s.owned, s.jump, s.store);
             pc = regs[15];
             arrival = arrival::unasked(s.number, true);
             next = s.next;
@@ -186,6 +200,42 @@ impl Processor {
             answers::DONE,
             count,
         )
+    }
+
+    // One step: a run of budget 1.
+    pub fn step_rows(
+        mut self,
+        words: &mut [u32],
+        owners: &mut [u32],
+        jumpers: &mut [u64],
+        writers: &mut [u64],
+        readers: &mut [u64],
+        rows: &mut [Row],
+    ) -> Stepped
+        ensures { λ r. ⌜ steppedWith r (now (words .exit)) (now (owners .exit)) (now (jumpers .exit)) (now (writers .exit)) (now (readers .exit)) (now (rows .exit)) ≡ lentStep (stateOf self (now (words .entry)) (now (owners .entry)) (now (jumpers .entry)) (now (writers .entry)) (now (readers .entry))) (table (now (rows .entry))) ⌝ }
+    {
+        let r = self.run_rows(words, owners, jumpers, writers, readers, 1, rows);
+        self = r.cpu;
+        Stepped {
+            cpu: self,
+            answer: r.answer,
+        }
+    }
+
+    // A run of which nobody asks the rows: they are wrong, and move unseen.
+    pub fn run(
+        self,
+        words: &mut [u32],
+        owners: &mut [u32],
+        jumpers: &mut [u64],
+        writers: &mut [u64],
+        readers: &mut [u64],
+        budget: u32,
+    ) -> Ran
+        ensures { λ r. ⌜ ranOf r (now (words .exit)) (now (owners .exit)) (now (jumpers .exit)) (now (writers .exit)) (now (readers .exit)) ≡ run budget (stateOf self (now (words .entry)) (now (owners .entry)) (now (jumpers .entry)) (now (writers .entry)) (now (readers .entry))) ⌝ }
+    {
+        let mut rows = [[0u32; 3]; ROWS];
+        self.run_rows(words, owners, jumpers, writers, readers, budget, &mut rows)
     }
 
     // One step: a run of budget 1.

@@ -7,12 +7,14 @@ use borrow.Author.Tests.{eq-eqb, ne-eqb, not-true, not-false}
 use lib.Dec.{eqb}
 use lib.ListN.{getD}
 use Rattle.common.specs.Answers as answer
-use Rattle.common.specs.Instructions.{reg}
+use Rattle.common.specs.Instructions.{bit, reg, plus}
+use Rattle.common.specs.Services.{serviceCount}
 use Rattle.common.specs.AddressSets.{Pair, setAt, isEmpty}
 use Rattle.rules.specs.Compartments.{numbers}
 use Rattle.rules.specs.State.{State, inMemory, hasOwner, ownerAt, jumpersAt, writersAt, readersAt, owns, mayJump, mayStore, mayRead, reads}
 use Rattle.rules.specs.Checks.{setA, setJ, setS, goodSets, setsWithin, returns}
 use Rattle.rules.specs.Laws.Tested.{isolateVerdict, addVerdict}
+use Rattle.rules.specs.Laws.CountLaws.{differs, differing}
 use Rattle.rules.specs.Step.{owned, joined, joinedServices, joinAt}
 use Rattle.address_sets.specs.SetLaws.{empty-count}
 use Rattle.reach.specs.Called.{called, asked}
@@ -87,28 +89,30 @@ fourth false n ps c sets = refl
 -- where the code's checks answer a
 module _ (s : State) (a : ℕ) (e : a ≡ isolateVerdict s (s .cpu .prev)) where
   pub isolate-stops : (a ≡ answer.done → ⊥)
-      → record { answer = a; services = s .cpu .services; owners = s .owners; jumpers = s .jumpers; writers = s .writers; readers = s .readers } ≡ isolating s
+      → record { answer = a; services = s .cpu .services; owners = s .owners; jumpers = s .jumpers; writers = s .writers; readers = s .readers; owned = 0; jump = 0; store = 0 } ≡ isolating s
   unfolding isolating
   isolate-stops h = simp (← e, ne-eqb a answer.done h)
 
   module _ (is-done : a ≡ answer.done) where
-    pub isolate-runs : (services owners jumpers writers readers : List ℕ)
+    pub isolate-runs : (services owners jumpers writers readers : List ℕ) (a′ j′ g′ w′ r′ : ℕ)
         → services ≡ joinedServices (setJ s) (s .cpu .next) (s .cpu .services)
-        → owners ≡ owned (s .cpu .n) (setA s) (s .cpu .next) (s .owners)
-        → jumpers ≡ joined (s .cpu .n) (setJ s) (s .cpu .next) (s .jumpers)
-        → writers ≡ joined (s .cpu .n) (setS s) (s .cpu .next) (s .writers)
+        → (owners ≡ owned (s .cpu .n) (setA s) (s .cpu .next) (s .owners)) × (a′ ≡ differing (s .cpu .n) (s .owners) owners)
+        → (jumpers ≡ joined (s .cpu .n) (setJ s) (s .cpu .next) (s .jumpers)) × (j′ ≡ differing (s .cpu .n) (s .jumpers) jumpers)
+        → (writers ≡ joined (s .cpu .n) (setS s) (s .cpu .next) (s .writers)) × (w′ ≡ differing (s .cpu .n) (s .writers) writers)
         → readers ≡ cond (s .cpu .strict) (joined (s .cpu .n) (setAt (s .words) (reg (s .cpu .regs) 4)) (s .cpu .next) (s .readers)) (s .readers)
-        → record { answer = answer.done; services = services; owners = owners; jumpers = jumpers; writers = writers; readers = readers } ≡ isolating s
+        → g′ ≡ differing (serviceCount (s .cpu .strict)) (s .cpu .services) services
+        → r′ ≡ plus j′ g′
+        → record { answer = answer.done; services = services; owners = owners; jumpers = jumpers; writers = writers; readers = readers; owned = a′; jump = r′; store = w′ } ≡ isolating s
     unfolding isolating
-    isolate-runs services owners jumpers writers readers p q r t u =
-        simp (← e, is-done, p, q, r, t, u ∙ fourth (s .cpu .strict) (s .cpu .n) (setAt (s .words) (reg (s .cpu .regs) 4)) (s .cpu .next) (s .readers))
+    isolate-runs services owners jumpers writers readers a′ j′ g′ w′ r′ p q r t u v z =
+        simp (← e, is-done, z, v, p, q .1, q .0, r .1, r .0, t .1, t .0, u ∙ fourth (s .cpu .strict) (s .cpu .n) (setAt (s .words) (reg (s .cpu .regs) 4)) (s .cpu .next) (s .readers))
 
 -- where the code's test of r1 has the result t, and that of r15 the result u
 module _ (s : State) (sets : List ℕ) (t : Bool) (own : t ≡ owns (asked (s .cpu .strict) (s .cpu .n) (s .owners) [] []) (s .cpu .prev) (reg (s .cpu .regs) 1)) where
   target : (b : Bool) → t ≡ b → owns s (s .cpu .prev) (reg (s .cpu .regs) 1) ≡ b
   target b h = same-owns s (asked (s .cpu .strict) (s .cpu .n) (s .owners) [] []) (s .cpu .prev) (reg (s .cpu .regs) 1) refl refl refl ∙ sym own ∙ h
 
-  pub not-owned : not t ≡ true → record { answer = answer.not-owned; sets = sets } ≡ adding s sets
+  pub not-owned : not t ≡ true → record { answer = answer.not-owned; sets = sets; joined = 0 } ≡ adding s sets
   unfolding adding addVerdict
   not-owned h = simp (target false (not-true t h))
 
@@ -116,11 +120,12 @@ module _ (s : State) (sets : List ℕ) (t : Bool) (own : t ≡ owns (asked (s .c
     way : (b : Bool) → u ≡ b → owns s (s .cpu .prev) (reg (s .cpu .regs) 15) ≡ b
     way b h = same-owns s (asked (s .cpu .strict) (s .cpu .n) (s .owners) [] []) (s .cpu .prev) (reg (s .cpu .regs) 15) refl refl refl ∙ sym back ∙ h
 
-    pub no-way-back : not u ≡ true → record { answer = answer.no-return; sets = sets } ≡ adding s sets
+    pub no-way-back : not u ≡ true → record { answer = answer.no-return; sets = sets; joined = 0 } ≡ adding s sets
     unfolding adding addVerdict
     no-way-back h = simp (target true (not-false t is-own), way false (not-true u h))
 
-    pub adds : not u ≡ false → (after : List ℕ) → after ≡ joinAt sets (reg (s .cpu .regs) 1) (s .cpu .prev)
-        → record { answer = answer.done; sets = after } ≡ adding s sets
+    pub adds : not u ≡ false → (after : List ℕ) (d : ℕ)
+        → (after ≡ joinAt sets (reg (s .cpu .regs) 1) (s .cpu .prev)) × (d ≡ bit (differs (getD sets (reg (s .cpu .regs) 1) 0) (getD after (reg (s .cpu .regs) 1) 0)))
+        → record { answer = answer.done; sets = after; joined = d } ≡ adding s sets
     unfolding adding addVerdict
-    adds h after e = simp (target true (not-false t is-own), way true (not-false u h), e)
+    adds h after d e = simp (target true (not-false t is-own), way true (not-false u h), e .1, e .0)

@@ -11,10 +11,20 @@ use memory::word_at;
 // Compartment numbers are below this.
 const NUMBERS: u32 = 64;
 
-// The answer, and the sets I of the four services.
+// The answer, the sets I of the four services, and what the new compartment gained: addresses, which its caller lost, jump targets and
+// store targets.
 pub struct Isolated {
     pub answer: u32,
     pub services: [u64; 4],
+    pub owned: u32,
+    pub jump: u32,
+    pub store: u32,
+}
+
+// The answer, and 1 where the caller joined a set that it was not in.
+pub struct Added {
+    pub answer: u32,
+    pub joined: u32,
 }
 
 // The checks of isolate in the sheet's order.
@@ -103,15 +113,26 @@ pub fn isolate(
         readers,
     );
     if answer != answers::DONE {
-        return Isolated { answer, services };
+        return Isolated {
+            answer,
+            services,
+            owned: 0,
+            jump: 0,
+            store: 0,
+        };
     }
-    tags::own(owners, words, n, regs[1], next);
-    tags::join(jumpers, words, n, regs[2], next);
-    tags::join(writers, words, n, regs[3], next);
+    let owned = tags::own(owners, words, n, regs[1], next);
+    let jump = tags::join(jumpers, words, n, regs[2], next);
+    let store = tags::join(writers, words, n, regs[3], next);
     join_readers(strict, readers, words, n, regs[4], next);
+    let after = tags::join_services(services, words, regs[2], next);
+    let gates = tags::services_joined(strict, services, after);
     Isolated {
         answer: answers::DONE,
-        services: tags::join_services(services, words, regs[2], next),
+        services: after,
+        owned,
+        jump: std::num::wrapping_add_u32(jump, gates),
+        store,
     }
 }
 
@@ -123,17 +144,26 @@ pub fn add_target(
     caller: u32,
     owners: &[u32],
     sets: &mut [u64],
-) -> u32
+) -> Added
     ensures { λ r. ⌜ addingOf r (now (sets .exit)) ≡ adding (called strict (now (regs .entry)) n caller 0 [] [] (now (owners .entry)) [] [] []) (now (sets .entry)) ⌝ }
 {
     let target = regs[1];
     let back = regs[15];
     if !reach::owns(strict, n, caller, owners, target) {
-        return answers::NOT_OWNED;
+        return Added {
+            answer: answers::NOT_OWNED,
+            joined: 0,
+        };
     }
     if !reach::owns(strict, n, caller, owners, back) {
-        return answers::NO_RETURN;
+        return Added {
+            answer: answers::NO_RETURN,
+            joined: 0,
+        };
     }
-    tags::join_at(sets, target, caller);
-    answers::DONE
+    let joined = tags::join_at(sets, target, caller);
+    Added {
+        answer: answers::DONE,
+        joined,
+    }
 }

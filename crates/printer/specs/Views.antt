@@ -1,7 +1,12 @@
 -- The code's results, seen as the definitions' numbers.
 use mathlib.Core.Bool.{Bool}
-use mathlib.Core.List.{List}
-use Prim.Native.Nat.{ℕ}
+use mathlib.Core.List.{List, [], _∷_}
+use Prim.Native.Nat.{ℕ, zero, suc}
+use lib.ListN.{getD}
+use Rattle.rules.specs.Counts.{widest}
+use Rattle.rules.specs.Rows as rows
+use Rattle.machine.specs.declared.Ran.{Ran}
+use Rattle.machine.specs.Views.{stateOf}
 use Rattle.numerals.specs.Writing.{Put, put}
 use Rattle.text.specs.Puts.{putOf}
 use Rattle.printed.specs.Text as meant
@@ -15,6 +20,19 @@ line answer steps pc prev jumped next widest = record { answer = answer; steps =
 
 abbrev pub row : ℕ → ℕ → ℕ → ℕ → meant.Row
 row number owned jumps stores = record { number = number; owned = owned; jumps = jumps; stores = stores }
+
+-- the lines of k compartments, c the first, from a table of rows
+unfoldable pub linesOf : List rows.Row → ℕ → ℕ → List meant.Row
+linesOf table c zero = []
+linesOf table c (suc k) =
+    let r : rows.Row = getD table c rows.noRow in
+    row c (r .owned) (r .jump) (r .store) ∷ linesOf table (suc c) k
+
+-- what a run came to, told from what it left
+abbrev pub ranBy : Ran → List ℕ → List ℕ → List rows.Row → meant.Outcome
+ranBy r owners writers table =
+    meant.ran (line (r .answer) (r .count) (r .cpu .pc) (r .cpu .prev) (r .cpu .jumped) (r .cpu .next) (widest (stateOf (r .cpu) [] owners [] writers [])))
+    (linesOf table 0 (r .cpu .next))
 
 -- a text as it is made: how it ended, and the text in a buffer
 pub record Meant : Type 0 where

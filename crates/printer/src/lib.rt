@@ -2,19 +2,20 @@
 mod lines;
 
 ghost use mathlib.Core.Path.{_≡_};
-ghost use mathlib.Core.List.{[]};
 ghost use Prim.Native.Nat.{_+_, _*_, _≤_};
 ghost use lib.ListN.{length};
 ghost use Rattle.numerals.specs.Writing.{put};
 ghost use Rattle.text.specs.Puts.{putOf};
-ghost use Rattle.machine.specs.Views.{ranOf};
+ghost use Rattle.rows.specs.Views.{table};
 ghost use Rattle.printed.specs.Text.{text};
-ghost use Rattle.printed.specs.Outcome.{ranOutcome, outcome, endedBy, print};
-ghost use Rattle.printer.specs.Views.{madeOf, meantOf, printedOf};
+ghost use Rattle.printed.specs.Outcome.{outcome, endedBy, print};
+ghost use Rattle.printer.specs.Views.{ranBy, madeOf, meantOf, printedOf};
 use crate::lines::put_first;
 use crate::lines::put_refused;
 use crate::lines::put_rows;
 use machine::Ran;
+use rows::ROWS;
+use rows::Row;
 
 // How many steps an image may take, and how many places its memories have.
 const BUDGET: u32 = 100000;
@@ -61,9 +62,9 @@ fn ended_by(answer: u32) -> u32
 }
 
 // The text of a run.
-fn put_ran(out: &mut [u8], r: Ran, owners: &[u32], jumpers: &[u64], writers: &[u64]) -> usize
-    ensures { λ n. ⌜ putOf n (now (out .exit)) ≡ put (text (ranOutcome (ranOf r [] (now (owners .entry)) (now (jumpers .entry)) (now (writers .entry)) []))) 0 (now (out .entry)) ⌝ }
-    ensures { λ _. ⌜ length (text (ranOutcome (ranOf r [] (now (owners .entry)) (now (jumpers .entry)) (now (writers .entry)) []))) ≤ 108 + 44 * r .cpu .next ⌝ }
+fn put_ran(out: &mut [u8], r: Ran, owners: &[u32], writers: &[u64], rows: &[Row]) -> usize
+    ensures { λ n. ⌜ putOf n (now (out .exit)) ≡ put (text (ranBy r (now (owners .entry)) (now (writers .entry)) (table (now (rows .entry))))) 0 (now (out .entry)) ⌝ }
+    ensures { λ _. ⌜ length (text (ranBy r (now (owners .entry)) (now (writers .entry)) (table (now (rows .entry))))) ≤ 108 + 44 * r .cpu .next ⌝ }
 {
     let cpu = r.cpu;
     let widest = report::widest(cpu, owners, writers);
@@ -77,7 +78,7 @@ fn put_ran(out: &mut [u8], r: Ran, owners: &[u32], jumpers: &[u64], writers: &[u
         cpu.next,
         widest,
     );
-    put_rows(out, p, cpu, owners, jumpers, writers)
+    put_rows(out, p, cpu.next, rows)
 }
 
 // Loads an image, runs it, and puts the text of what came of it.
@@ -90,7 +91,8 @@ fn make(strict: bool, bytes: &[u8], out: &mut [u8]) -> Made
     let mut jumpers = [0u64; PLACES];
     let mut writers = [0u64; PLACES];
     let mut readers = [0u64; PLACES];
-    let l = loader::load(
+    let mut rows = [[0u32; 3]; ROWS];
+    let l = loader::load_rows(
         strict,
         bytes,
         &mut words,
@@ -98,6 +100,7 @@ fn make(strict: bool, bytes: &[u8], out: &mut [u8]) -> Made
         &mut jumpers,
         &mut writers,
         &mut readers,
+        &mut rows,
     );
     let answer = l.answer;
     if answer != answers::DONE {
@@ -108,16 +111,17 @@ fn make(strict: bool, bytes: &[u8], out: &mut [u8]) -> Made
         };
     }
     let cpu = l.cpu;
-    let r = cpu.run(
+    let r = cpu.run_rows(
         &mut words,
         &mut owners,
         &mut jumpers,
         &mut writers,
         &mut readers,
         BUDGET,
+        &mut rows,
     );
     let status = ended_by(r.answer);
-    let length = put_ran(out, r, &owners, &jumpers, &writers);
+    let length = put_ran(out, r, &owners, &writers, &rows);
     Made { status, length }
 }
 

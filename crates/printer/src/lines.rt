@@ -1,16 +1,15 @@
 // The lines of the text, each put behind the one before.
 ghost use mathlib.Core.Path.{_≡_};
-ghost use mathlib.Core.List.{[]};
 ghost use Prim.Native.Nat.{_+_, _*_, _≤_};
 ghost use lib.ListN.{length};
 ghost use Rattle.common.specs.Instructions.{bit};
 ghost use Rattle.numerals.specs.Writing.{put};
 ghost use Rattle.text.specs.Puts.{putOf};
-ghost use Rattle.machine.specs.Views.{stateOf};
+ghost use Rattle.rows.specs.Views.{table};
 ghost use Rattle.printed.specs.Text.{field, refusedLine, firstLine, rowLine, rowLines};
-ghost use Rattle.printed.specs.Outcome.{rowsFrom};
-ghost use Rattle.printer.specs.Views.{line, row};
-use machine::Processor;
+ghost use Rattle.printer.specs.Views.{line, row, linesOf};
+use rows::Row;
+use rows::row_at;
 
 // A name and a number.
 fn put_field(out: &mut [u8], at: usize, name: &[u8], value: u32) -> usize
@@ -75,27 +74,17 @@ fn put_row(out: &mut [u8], at: usize, number: u32, owned: u32, jumps: u32, store
     text::put_text(out, p4, b"\n")
 }
 
-// A line for each compartment below next.
-pub(crate) fn put_rows(
-    out: &mut [u8],
-    at: usize,
-    cpu: Processor,
-    owners: &[u32],
-    jumpers: &[u64],
-    writers: &[u64],
-) -> usize
+// A line for each compartment below next, from its row.
+pub(crate) fn put_rows(out: &mut [u8], at: usize, next: u32, rows: &[Row]) -> usize
     requires { ⌜ at ≤ length (now out) ⌝ }
-    ensures { λ r. ⌜ putOf r (now (out .exit)) ≡ put (rowLines (rowsFrom (stateOf cpu [] (now (owners .entry)) (now (jumpers .entry)) (now (writers .entry)) []) 0 (cpu .next))) at (now (out .entry)) ⌝ }
-    ensures { λ _. ⌜ length (rowLines (rowsFrom (stateOf cpu [] (now (owners .entry)) (now (jumpers .entry)) (now (writers .entry)) []) 0 (cpu .next))) ≤ 44 * cpu .next ⌝ }
+    ensures { λ r. ⌜ putOf r (now (out .exit)) ≡ put (rowLines (linesOf (table (now (rows .entry))) 0 next)) at (now (out .entry)) ⌝ }
+    ensures { λ _. ⌜ length (rowLines (linesOf (table (now (rows .entry))) 0 next)) ≤ 44 * next ⌝ }
 {
-    let next = cpu.next;
     let mut p = at;
     let mut c: u32 = 0;
     while c < next {
-        let owned = report::owned(cpu, owners, c);
-        let jumps = report::jumps(cpu, jumpers, c);
-        let stores = report::stores(cpu, writers, c);
-        p = put_row(out, p, c, owned, jumps, stores);
+        let row = row_at(rows, c);
+        p = put_row(out, p, c, row[0], row[1], row[2]);
         c += 1;
     }
     p

@@ -2,7 +2,7 @@
 use mathlib.Core.Path.{_≡_, refl, sym, ap, ap₂, _∙_}
 use mathlib.Core.Bool.{Bool, true, false, _&&_, not, and-false}
 use mathlib.Core.List.{List}
-use Prim.Native.Nat.{ℕ, zero, suc, _+_, _-_, _≤_, _<_, min, max}
+use Prim.Native.Nat.{ℕ, suc, _+_, _-_, _≤_, _<_, min, max}
 use native.Mathlib.Omega.{arith}
 use native.Mathlib.Nat.{zero-add, add-zero}
 use native.Mathlib.Numerals.{add-one}
@@ -15,6 +15,7 @@ use Rattle.common.specs.Laws.ServiceLaws.{is-service, is-fourth}
 use Rattle.rules.specs.Compartments.{member, insert, size}
 use Rattle.rules.specs.Laws.CompartmentLaws.{eqb-swap, member-empty, bit-most, size-most}
 use Rattle.rules.specs.State.{State, inMemory, hasOwner, ownerAt, jumpersAt, writersAt, owns, mayJump, mayStore}
+use Rattle.rules.specs.Laws.CountLaws.{count-most, count-same}
 use Rattle.rules.specs.Counts.{countFrom, addressCount, ownedCount, jumpCount, storeCount, writerCount, mostBelow}
 
 -- ---- a count, address by address
@@ -23,11 +24,6 @@ module _ (test : ℕ → Bool) where
   count-more : (k : ℕ) → countFrom test 0 (k + 1) ≡ countFrom test 0 k + bit (test k)
   unfolding countFrom
   count-more k = ap (countFrom test 0) (add-one k) ∙ ap (λ (x : ℕ). countFrom test 0 k + bit (test x)) (zero-add k)
-
-  pub count-most : (k : ℕ) → countFrom test 0 k ≤ k
-  unfolding countFrom
-  count-most zero = omega arith
-  count-most (suc k) = let h = count-most k in let b = bit-most (test (0 + k)) in omega arith
 
 -- a loop that counts the places where the test holds, at x
 pub record Counting (test : ℕ → Bool) (places count x : ℕ) : Type 0 where
@@ -49,13 +45,6 @@ module _ (test : ℕ → Bool) (places : ℕ) where
 
   pub count-ends : (count x n : ℕ) → Counting test places count x → places ≤ x → places ≡ n → count ≡ countFrom test 0 n
   count-ends count x n w h e = let o = w .most in let z : x ≡ n = omega arith in w .same ∙ ap (countFrom test 0) z
-
--- two tests that agree on the way
-pub count-same : (t u : ℕ → Bool) (x k : ℕ) → ((y : ℕ) → x ≤ y → y < x + k → t y ≡ u y) → countFrom t x k ≡ countFrom u x k
-unfolding countFrom
-count-same t u x zero h = refl
-count-same t u x (suc k) h =
-    ap₂ (λ (m : ℕ) (b : Bool). m + bit b) (count-same t u x k (λ y l m. h y l (omega arith))) (h (x + k) (omega arith) (omega arith))
 
 -- ---- the places of one list
 

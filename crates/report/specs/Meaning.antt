@@ -18,7 +18,7 @@ use Rattle.rules.specs.Laws.Tested.{sized}
 use Rattle.rules.specs.Laws.FormLaws.{is-sized}
 use Rattle.rules.specs.BothMachines.Match.{Match}
 use Rattle.rules.specs.Counts.{countFrom, addressCount, ownedCount, jumpCount, storeCount}
-use Rattle.report.specs.CountLaws.{count-same}
+use Rattle.rules.specs.Laws.CountLaws.{count-same}
 
 -- the first address past the services
 abbrev pub past : Bool → ℕ

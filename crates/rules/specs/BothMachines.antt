@@ -10,3 +10,4 @@ pub mod Runs
 pub mod Start
 pub mod Changes
 pub mod Agreement
+pub mod LoadedRows

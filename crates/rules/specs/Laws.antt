@@ -7,3 +7,6 @@ pub mod Passed
 pub mod StepLaws
 pub mod TagLaws
 pub mod JoinLaws
+pub mod CountLaws
+pub mod RowLaws
+pub mod ServiceRows

@@ -15,3 +15,4 @@ pub mod Formed
 pub mod Leaving
 pub mod Alike
 pub mod Readers
+pub mod Rows

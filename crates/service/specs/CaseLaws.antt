@@ -25,7 +25,7 @@ one-grown a next h r e = simp h e
 -- t: whether the caller arrives
 module _ (jumped : Bool) (s : State) (t : Bool) (e : t ≡ (jumped && member (getD (s .cpu .services) 0 empty) (s .cpu .prev))) where
   pub isolate-no-arrival : not t ≡ true
-      → record { answer = answer.no-arrival; services = s .cpu .services; owners = s .owners; jumpers = s .jumpers; writers = s .writers; readers = s .readers } ≡ isolatedBy jumped s
+      → record { answer = answer.no-arrival; services = s .cpu .services; owners = s .owners; jumpers = s .jumpers; writers = s .writers; readers = s .readers; owned = 0; jump = 0; store = 0 } ≡ isolatedBy jumped s
   unfolding isolatedBy
   isolate-no-arrival h = simp (sym e ∙ not-true t h)
 
@@ -34,7 +34,7 @@ module _ (jumped : Bool) (s : State) (t : Bool) (e : t ≡ (jumped && member (ge
   isolate-arrives h o i = simp (sym e ∙ not-false t h) i
 
 module _ (strict : Bool) (regs : List ℕ) (n prev : ℕ) (jumped : Bool) (gate : ℕ) (owners sets : List ℕ) (t : Bool) (e : t ≡ (jumped && member gate prev)) where
-  pub add-no-arrival : not t ≡ true → record { answer = answer.no-arrival; sets = sets } ≡ addedBy strict regs n prev jumped gate owners sets
+  pub add-no-arrival : not t ≡ true → record { answer = answer.no-arrival; sets = sets; joined = 0 } ≡ addedBy strict regs n prev jumped gate owners sets
   unfolding addedBy
   add-no-arrival h = simp (sym e ∙ not-true t h)
 
@@ -46,7 +46,7 @@ module _ (strict : Bool) (regs : List ℕ) (n prev : ℕ) (jumped : Bool) (gate 
 module _ (s : State) where
   -- the result where it is none
   abbrev none : Served
-  none = record { answer = answer.no-place; number = 0; next = s .cpu .next; services = s .cpu .services }
+  none = record { answer = answer.no-place; number = 0; next = s .cpu .next; services = s .cpu .services; to = 0; owned = 0; jump = 0; store = 0 }
 
   pub at-isolate : s .cpu .pc ≡ service.isolate → (o : Isolating) → o ≡ isolatedBy (s .cpu .jumped) (callOf s) → (next : ℕ) → next ≡ grown (o .answer) (s .cpu .next)
       → record {
@@ -58,6 +58,10 @@ module _ (s : State) where
         jumpers = o .jumpers;
         writers = o .writers;
         readers = o .readers;
+        to = s .cpu .next;
+        owned = o .owned;
+        jump = o .jump;
+        store = o .store;
       } ≡ serving s
   unfolding serving
   at-isolate h o i next g = simp (h, ← i, g)

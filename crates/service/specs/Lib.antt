@@ -2,3 +2,4 @@
 pub mod Served
 pub mod CaseLaws
 pub mod ServiceLaws
+pub mod ServingRows

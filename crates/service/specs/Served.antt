@@ -28,19 +28,20 @@ stateFrom strict regs n pc prev jumped next services words owners jumpers writer
 unfoldable pub isolatedBy : Bool → State → Isolating
 isolatedBy jumped s =
     cond (jumped && member (getD (s .cpu .services) 0 empty) (s .cpu .prev)) (isolating s)
-    (record { answer = answer.no-arrival; services = s .cpu .services; owners = s .owners; jumpers = s .jumpers; writers = s .writers; readers = s .readers })
+    (record { answer = answer.no-arrival; services = s .cpu .services; owners = s .owners; jumpers = s .jumpers; writers = s .writers; readers = s .readers; owned = 0; jump = 0; store = 0 })
 
 -- an add over the sets, where the caller arrives
 unfoldable pub addedBy : Bool → List ℕ → ℕ → ℕ → Bool → ℕ → List ℕ → List ℕ → Adding
 addedBy strict regs n prev jumped gate owners sets =
     cond (jumped && member gate prev) (adding (called strict regs n prev 0 [] [] owners [] [] []) sets)
-    (record { answer = answer.no-arrival; sets = sets })
+    (record { answer = answer.no-arrival; sets = sets; joined = 0 })
 
 -- "next grows by 1"
 unfoldable pub grown : ℕ → ℕ → ℕ
 grown a next = cond (eqb a answer.done) (plus next 1) next
 
--- the answer, the service's number, next, the services' sets and the four memories of tags
+-- the answer, the service's number, next, the services' sets and the four memories of tags; and who gained how many addresses, jump
+-- targets and store targets
 pub record Serving : Type 0 where
   pub answer : ℕ
   pub number : ℕ
@@ -50,10 +51,14 @@ pub record Serving : Type 0 where
   pub jumpers : List ℕ
   pub writers : List ℕ
   pub readers : List ℕ
+  pub to : ℕ
+  pub owned : ℕ
+  pub jump : ℕ
+  pub store : ℕ
 
 abbrev pub servedOf : Served → List ℕ → List ℕ → List ℕ → List ℕ → Serving
 servedOf r owners jumpers writers readers =
-    record { answer = r .answer; number = r .number; next = r .next; services = r .services; owners = owners; jumpers = jumpers; writers = writers; readers = readers }
+    record { answer = r .answer; number = r .number; next = r .next; services = r .services; owners = owners; jumpers = jumpers; writers = writers; readers = readers; to = r .to; owned = r .owned; jump = r .jump; store = r .store }
 
 abbrev pub callOf : State → State
 callOf s = called (s .cpu .strict) (s .cpu .regs) (s .cpu .n) (s .cpu .prev) (s .cpu .next) (s .cpu .services) (s .words) (s .owners) (s .jumpers) (s .writers) (s .readers)
@@ -73,24 +78,42 @@ isolates s o =
       jumpers = o .jumpers;
       writers = o .writers;
       readers = o .readers;
+      to = s .cpu .next;
+      owned = o .owned;
+      jump = o .jump;
+      store = o .store;
     }
 
--- an answer and a number, with these three memories; next, the services' sets and the owners stay
-abbrev pub kept : State → ℕ → ℕ → List ℕ → List ℕ → List ℕ → Serving
-kept s a number jumpers writers readers =
-    record { answer = a; number = number; next = s .cpu .next; services = s .cpu .services; owners = s .owners; jumpers = jumpers; writers = writers; readers = readers }
+-- an answer and a number, with these three memories, and what one compartment gained; next, the services' sets and the owners stay
+abbrev pub kept : State → ℕ → ℕ → List ℕ → List ℕ → List ℕ → ℕ → ℕ → ℕ → Serving
+kept s a number jumpers writers readers to jump store =
+    record {
+      answer = a;
+      number = number;
+      next = s .cpu .next;
+      services = s .cpu .services;
+      owners = s .owners;
+      jumpers = jumpers;
+      writers = writers;
+      readers = readers;
+      to = to;
+      owned = 0;
+      jump = jump;
+      store = store;
+    }
 
 abbrev pub adds-jump : State → Adding → Serving
-adds-jump s o = kept s (o .answer) 2 (o .sets) (s .writers) (s .readers)
+adds-jump s o = kept s (o .answer) 2 (o .sets) (s .writers) (s .readers) (s .cpu .prev) (o .joined) 0
 
 abbrev pub adds-store : State → Adding → Serving
-adds-store s o = kept s (o .answer) 3 (s .jumpers) (o .sets) (s .readers)
+adds-store s o = kept s (o .answer) 3 (s .jumpers) (o .sets) (s .readers) (s .cpu .prev) 0 (o .joined)
 
+-- readers are not counted
 abbrev pub adds-read : State → Adding → Serving
-adds-read s o = kept s (o .answer) 4 (s .jumpers) (s .writers) (o .sets)
+adds-read s o = kept s (o .answer) 4 (s .jumpers) (s .writers) (o .sets) (s .cpu .prev) 0 0
 
 abbrev pub nowhere : State → Serving
-nowhere s = kept s answer.no-place 0 (s .jumpers) (s .writers) (s .readers)
+nowhere s = kept s answer.no-place 0 (s .jumpers) (s .writers) (s .readers) 0 0 0
 
 unfoldable pub serving : State → Serving
 serving s =

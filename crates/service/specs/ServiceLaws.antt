@@ -24,11 +24,11 @@ use Rattle.monitor.specs.Outcomes.{called, isolating, Adding, adding}
 use Rattle.service.specs.Served.{isolatedBy, addedBy, grown, Serving, callOf, addOf, isolates, adds-jump, adds-store, adds-read, serving}
 
 -- whether a call arrives: the flag is set, and the caller is in the service's set
-abbrev arrivesBy : Processor → ℕ → Bool
+abbrev pub arrivesBy : Processor → ℕ → Bool
 arrivesBy p gate = p .jumped && member gate (p .prev)
 
 module _ (s : State) (f : formed s ≡ true) (h : s .cpu .n ≤ s .cpu .pc) where
-  not-inside : inMemory s (s .cpu .pc) ≡ false
+  pub not-inside : inMemory s (s .cpu .pc) ≡ false
   unfolding inMemory
   not-inside = le-ltb (s .cpu .pc) (s .cpu .n) h
 
@@ -102,7 +102,7 @@ leaves s o =
     }
 
 -- isolate reads neither the flag nor pc
-same-isolate : (s : State) → isolateVerdict (callOf s) (s .cpu .prev) ≡ isolateVerdict s (s .cpu .prev)
+pub same-isolate : (s : State) → isolateVerdict (callOf s) (s .cpu .prev) ≡ isolateVerdict s (s .cpu .prev)
 unfolding isolateVerdict goodSets setsWithin returns owns hasOwner ownerAt inMemory mayJump jumpersAt mayStore writersAt mayRead readersAt reads
 same-isolate s = refl
 
@@ -117,7 +117,7 @@ ran-isolate : (s : State) → s .cpu .pc ≡ isolate → ranService s ≡ record
 unfolding ranService isolated serviceAt
 ran-isolate s at = simp at
 
-same-add : (s : State) → addVerdict (called (s .cpu .strict) (s .cpu .regs) (s .cpu .n) (s .cpu .prev) 0 [] [] (s .owners) [] [] []) (s .cpu .prev) ≡ addVerdict s (s .cpu .prev)
+pub same-add : (s : State) → addVerdict (called (s .cpu .strict) (s .cpu .regs) (s .cpu .n) (s .cpu .prev) 0 [] [] (s .owners) [] [] []) (s .cpu .prev) ≡ addVerdict s (s .cpu .prev)
 unfolding addVerdict owns hasOwner ownerAt inMemory
 same-add s = refl
 

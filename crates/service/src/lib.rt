@@ -3,14 +3,20 @@ ghost use mathlib.Core.Path.{_≡_};
 ghost use Rattle.common.specs.Answers as answer;
 ghost use Rattle.monitor.specs.Outcomes.{called, isolatingOf, addingOf};
 ghost use Rattle.service.specs.Served.{stateFrom, servedOf, serving, grown, isolatedBy, addedBy};
+use monitor::Added;
 use monitor::Isolated;
 
-// The answer; and where it is 0, the service's number, the first unused compartment number and the sets I of the four services.
+// The answer; and where it is 0, the service's number, the first unused compartment number, the sets I of the four services, and which
+// compartment gained how many addresses, jump targets and store targets.
 pub struct Served {
     pub answer: u32,
     pub number: u32,
     pub next: u32,
     pub services: [u64; 4],
+    pub to: u32,
+    pub owned: u32,
+    pub jump: u32,
+    pub store: u32,
 }
 
 // At 4096.
@@ -34,6 +40,9 @@ fn isolate(
         return Isolated {
             answer: answers::NO_ARRIVAL,
             services,
+            owned: 0,
+            jump: 0,
+            store: 0,
         };
     }
     monitor::isolate(
@@ -61,11 +70,14 @@ fn add_target(
     gate: u64,
     owners: &[u32],
     sets: &mut [u64],
-) -> u32
+) -> Added
     ensures { λ r. ⌜ addingOf r (now (sets .exit)) ≡ addedBy strict (now (regs .entry)) n prev jumped gate (now (owners .entry)) (now (sets .entry)) ⌝ }
 {
     if !rights::jumped_in(prev, jumped, gate) {
-        return answers::NO_ARRIVAL;
+        return Added {
+            answer: answers::NO_ARRIVAL,
+            joined: 0,
+        };
     }
     monitor::add_target(regs, strict, n, prev, owners, sets)
 }
@@ -82,13 +94,17 @@ fn grown(answer: u32, next: u32) -> u32
 
 // 2.
 fn no_place(next: u32, services: [u64; 4]) -> Served
-    ensures { λ r. ⌜ r ≡ record { answer = answer.no-place; number = 0; next = next; services = services } ⌝ }
+    ensures { λ r. ⌜ r ≡ record { answer = answer.no-place; number = 0; next = next; services = services; to = 0; owned = 0; jump = 0; store = 0 } ⌝ }
 {
     Served {
         answer: answers::NO_PLACE,
         number: 0,
         next,
         services,
+        to: 0,
+        owned: 0,
+        jump: 0,
+        store: 0,
     }
 }
 
@@ -133,36 +149,52 @@ pub fn serve(
                 number: 1,
                 next: grown(answer, next),
                 services: made,
+                to: next,
+                owned: i.owned,
+                jump: i.jump,
+                store: i.store,
             }
         }
         modes::ADD_JUMP_TARGET => {
-            let answer = add_target(regs, strict, n, prev, jumped, services[1], owners, jumpers);
+            let a = add_target(regs, strict, n, prev, jumped, services[1], owners, jumpers);
             Served {
-                answer,
+                answer: a.answer,
                 number: 2,
                 next,
                 services,
+                to: prev,
+                owned: 0,
+                jump: a.joined,
+                store: 0,
             }
         }
         modes::ADD_STORE_TARGET => {
-            let answer = add_target(regs, strict, n, prev, jumped, services[2], owners, writers);
+            let a = add_target(regs, strict, n, prev, jumped, services[2], owners, writers);
             Served {
-                answer,
+                answer: a.answer,
                 number: 3,
                 next,
                 services,
+                to: prev,
+                owned: 0,
+                jump: 0,
+                store: a.joined,
             }
         }
         modes::ADD_READ_TARGET => {
             if !strict {
                 return no_place(next, services);
             }
-            let answer = add_target(regs, strict, n, prev, jumped, services[3], owners, readers);
+            let a = add_target(regs, strict, n, prev, jumped, services[3], owners, readers);
             Served {
-                answer,
+                answer: a.answer,
                 number: 4,
                 next,
                 services,
+                to: prev,
+                owned: 0,
+                jump: 0,
+                store: 0,
             }
         }
         _ => no_place(next, services),

@@ -1,21 +1,25 @@
 -- Laws of the lists of tags, each changed at the places of a set: `owned` and `joined` are one change by place.
-use mathlib.Core.Path.{_≡_, refl, sym, ap, _∙_, subst}
-use mathlib.Core.Logic.{_≢_}
-use mathlib.Core.Bool.{Bool, true, false, cond, _&&_, _||_, and-false}
+use mathlib.Core.Path.{_≡_, refl, sym, ap, ap₂, _∙_, subst}
+use mathlib.Core.Logic.{_≢_, _⊎_, inl, inr}
+use mathlib.Core.Bool.{Bool, true, false, cond, not, _&&_, _||_, and-false}
 use mathlib.Core.List.{List, [], _∷_}
 use Prim.Native.Nat.{ℕ, zero, suc, _+_, _<_, _≤_, min, max}
 use native.Mathlib.Nat.{le-of-suc-le-suc, not-suc-le-zero, suc-add, add-suc, add-zero, zero-add}
 use native.Mathlib.Decide.{ℕ-discrete}
 use native.Mathlib.Numerals.{add-one}
 use native.Mathlib.Omega.{arith}
-use borrow.Author.Tests.{le-leb, lt-ltb, leb-true, ltb-true}
+use borrow.Author.Tests.{not-true, not-false, eq-eqb, le-leb, lt-ltb, leb-true, ltb-true, ltb-false}
 use lib.Dec.{leb, ltb}
 use lib.ListN.{getD, length, set, length-set}
-use lib.Seq.{ext-getD, getD-set-same, getD-set-other}
+use lib.Seq.{ext-getD, getD-set-same, getD-set-other, set-out}
 use Rattle.common.specs.Laws.Tests.{both, bool-ext}
-use Rattle.common.specs.Services.{isolate}
+use Rattle.common.specs.Instructions.{bit}
+use Rattle.common.specs.Services.{isolate, serviceCount}
 use Rattle.common.specs.AddressSets.{Pair, pairsAt, setAt, inPair, inSet}
 use Rattle.rules.specs.Compartments.{insert}
+use Rattle.rules.specs.Counts.{countFrom}
+use Rattle.rules.specs.Laws.CountLaws.{differs, differing, differing-none, differing-most, differing-set, differing-then}
+use Rattle.rules.specs.Laws.TagLaws.{beyond}
 use Rattle.rules.specs.Step.{mapFrom, below}
 use Rattle.address_sets.specs.SetLaws.{pairAt}
 
@@ -118,36 +122,53 @@ same-walked n first x y i f g =
     (λ h. let w = of-walked n first x i h in is-walked n first y i (w .inside) (w .from) (f (w .inside) (w .from) (w .before)))
     (λ h. let w = of-walked n first y i h in is-walked n first x i (w .inside) (w .from) (g (w .inside) (w .from) (w .before)))
 
--- a loop over a pair's places below end, at x: l is changed at those before x
-pub record Walking (g : ℕ → ℕ) (l : List ℕ) (n first end : ℕ) (m : List ℕ) (x : ℕ) : Type 0 where
+-- a loop over a pair's places below end, at x: l is changed at those before x, and so many of them are not as they were
+pub record Walking (g : ℕ → ℕ) (l : List ℕ) (n first end : ℕ) (m : List ℕ) (x changes : ℕ) : Type 0 where
   pub from : first ≤ x
   pub most : x ≤ max first end
   pub long : length m ≡ length l
   pub same : m ≡ changed (walked n first x) g l
+  pub counted : changes ≡ differing n l m
 
 module _ (g : ℕ → ℕ) (l : List ℕ) (n first end : ℕ) where
-  pub walk-starts : Walking g l n first end l first
+  pub walk-starts : Walking g l n first end l first 0
   walk-starts =
-      record { from = omega arith; most = omega arith; long = refl; same = changed-none g l (walked n first first) (λ i. not-walked n first first i (λ w. omega arith)) }
+      record { from = omega arith; most = omega arith; long = refl; same = changed-none g l (walked n first first) (λ i. not-walked n first first i (λ w. omega arith)); counted = sym (differing-none n l) }
 
-  pub walk-goes : (m : List ℕ) (x v : ℕ) → Walking g l n first end m x → x < end → end ≤ n → end ≤ length l → v ≡ g (getD m x 0)
-      → Walking g l n first end (set m x v) (x + 1)
-  walk-goes m x v w h k a e =
-      let f = w .from in
-      record {
-        from = omega arith;
-        most = omega arith;
-        long = length-set m x v ∙ w .long;
-        same = ap (set m x) e ∙ ap (λ (m : List ℕ). set m x (g (getD m x 0))) (w .same)
-            ∙ changed-set g l (walked n first x) (walked n first (x + 1)) x (omega arith) (not-walked n first x x (λ w. omega arith)) (is-walked n first (x + 1) x (omega arith) f (omega arith))
-            (λ i ne. same-walked n first (x + 1) x i (λ p q r. omega arith) (λ p q r. omega arith));
-      }
+  module _ (m : List ℕ) (x v changes d : ℕ) (w : Walking g l n first end m x changes) (h : x < end) (k : end ≤ n) (a : end ≤ length l) (f : d ≡ bit (differs (getD m x 0) v)) where
+    -- the place was not walked over before
+    still : getD m x 0 ≡ getD l x 0
+    still =
+        ap (λ (z : List ℕ). getD z x 0) (w .same) ∙ getD-changed g l (walked n first x) x (omega arith)
+        ∙ ap (λ (b : Bool). cond b (g (getD l x 0)) (getD l x 0)) (not-walked n first x x (λ w. omega arith))
+
+    more-counted : changes + d ≡ differing n l (set m x v)
+    more-counted = ap₂ (λ (a b : ℕ). a + b) (w .counted) f ∙ sym (differing-set n l m x v (omega arith) (omega (arith, w .long)) still)
+
+    pub walk-fits : changes + d ≤ n
+    walk-fits = let e = more-counted in let z = differing-most n l (set m x v) in omega arith
+
+    pub walk-goes : v ≡ g (getD m x 0) → Walking g l n first end (set m x v) (x + 1) (changes + d)
+    walk-goes e =
+        let f = w .from in
+        record {
+          from = omega arith;
+          most = omega arith;
+          long = length-set m x v ∙ w .long;
+          same = ap (set m x) e ∙ ap (λ (m : List ℕ). set m x (g (getD m x 0))) (w .same)
+              ∙ changed-set g l (walked n first x) (walked n first (x + 1)) x (omega arith) (not-walked n first x x (λ w. omega arith)) (is-walked n first (x + 1) x (omega arith) f (omega arith))
+              (λ i ne. same-walked n first (x + 1) x i (λ p q r. omega arith) (λ p q r. omega arith));
+          counted = more-counted;
+        }
 
   -- past the clipped end the walk has been over the whole pair
-  pub walk-ends : (m : List ℕ) (x past : ℕ) → Walking g l n first end m x → end ≤ x → end ≡ min (min past n) (length l) → m ≡ changed (walked n first past) g l
-  walk-ends m x past w h e =
-      w .same ∙ changed-same g l (walked n first x) (walked n first past)
-      (λ i hi. same-walked n first x past i (λ p q r. omega arith) (λ p q r. omega arith))
+  pub walk-ends : (m : List ℕ) (x past changes : ℕ) → Walking g l n first end m x changes → end ≤ x → end ≡ min (min past n) (length l)
+      → (m ≡ changed (walked n first past) g l) × (changes ≡ differing n l m)
+  walk-ends m x past changes w h e = (
+    w .same ∙ changed-same g l (walked n first x) (walked n first past)
+        (λ i hi. same-walked n first x past i (λ p q r. omega arith) (λ p q r. omega arith)),
+    w .counted,
+  )
 
 -- ---- pair by pair
 
@@ -168,35 +189,72 @@ module _ (g : ℕ → ℕ) (twice : (v : ℕ) → g (g v) ≡ g v) (l : List ℕ
       go true false true v = refl
       go true false false v = refl
 
--- a loop over the k pairs of the set at q, at pair j: l is changed at those before j
-pub record Pairing (g : ℕ → ℕ) (l : List ℕ) (n : ℕ) (words : List ℕ) (q k : ℕ) (m : List ℕ) (j : ℕ) : Type 0 where
+  -- a place that the pairs before had is not changed again
+  no-place-twice : (p : Pair) (ps : List Pair) (x : ℕ) → (getD (changed (below n ps) g l) x 0 ≡ getD l x 0) ⊎ (getD (changed (below n (p ∷ ps)) g l) x 0 ≡ getD (changed (below n ps) g l) x 0)
+  unfolding inSet
+  no-place-twice p ps x = go (ltb x (length l)) refl
+    where
+      m : List ℕ
+      m = changed (below n ps) g l
+
+      o : List ℕ
+      o = changed (below n (p ∷ ps)) g l
+
+      at : (a b : Bool) → below n ps x ≡ a → below n (p ∷ ps) x ≡ b → (a ≡ true → b ≡ true) → x < length l → (getD m x 0 ≡ getD l x 0) ⊎ (getD o x 0 ≡ getD m x 0)
+      at false b e f i h = inl (getD-changed g l (below n ps) x h ∙ simp e)
+      at true b e f i h = inr (getD-changed g l (below n (p ∷ ps)) x h ∙ simp (f ∙ i refl) (sym (getD-changed g l (below n ps) x h ∙ simp e)))
+
+      grows : below n ps x ≡ true → below n (p ∷ ps) x ≡ true
+      grows e = let t = both (ltb x n) (inSet ps x) e in simp (t .0, t .1)
+
+      go : (b : Bool) → ltb x (length l) ≡ b → (getD m x 0 ≡ getD l x 0) ⊎ (getD o x 0 ≡ getD m x 0)
+      go true e = at (below n ps x) (below n (p ∷ ps) x) refl refl grows (ltb-true _ _ e)
+      go false e =
+          let out : length l ≤ x = ltb-false _ _ e in
+          let same : length m ≡ length l = length-changed g l (below n ps) in
+          inl (beyond m x (omega arith) ∙ sym (beyond l x out))
+
+-- a loop over the k pairs of the set at q, at pair j: l is changed at those before j, and so many places are not as they were
+pub record Pairing (g : ℕ → ℕ) (l : List ℕ) (n : ℕ) (words : List ℕ) (q k : ℕ) (m : List ℕ) (j changes : ℕ) : Type 0 where
   pub most : j ≤ k
   pub long : length m ≡ length l
   pub same : m ≡ changed (below n (pairsAt words (q + 1) j)) g l
+  pub counted : changes ≡ differing n l m
 
 module _ (g : ℕ → ℕ) (twice : (v : ℕ) → g (g v) ≡ g v) (l : List ℕ) (n : ℕ) (words : List ℕ) (q k : ℕ) where
-  pub set-starts : Pairing g l n words q k l 0
+  pub set-starts : Pairing g l n words q k l 0 0
   unfolding pairsAt inSet
-  set-starts = record { most = omega arith; long = refl; same = changed-none g l (below n []) (λ i. and-false (ltb i n)) }
+  set-starts = record { most = omega arith; long = refl; same = changed-none g l (below n []) (λ i. and-false (ltb i n)); counted = sym (differing-none n l) }
 
-  pub set-goes : (m : List ℕ) (j : ℕ) → Pairing g l n words q k m j → j < k → (p : Pair) → p ≡ pairAt words (q + 1) j
-      → (m′ : List ℕ) → length m′ ≡ length m → m′ ≡ changed (below n (p ∷ [])) g m → Pairing g l n words q k m′ (j + 1)
-  unfolding pairsAt
-  set-goes m j w h p e m′ a b =
-      record {
-        most = omega arith;
-        long = a ∙ w .long;
-        same = b ∙ ap (changed (below n (p ∷ [])) g) (w .same)
-            ∙ pair-more g twice l n p (pairsAt words (q + 1) j)
-            ∙ ap (λ (r : Pair). changed (below n (r ∷ pairsAt words (q + 1) j)) g l) e
-            ∙ ap (λ (i : ℕ). changed (below n (pairsAt words (q + 1) i)) g l) (sym (add-one j));
-      }
+  module _ (m : List ℕ) (j changes : ℕ) (w : Pairing g l n words q k m j changes) (h : j < k) (p : Pair) (e : p ≡ pairAt words (q + 1) j) (m′ : List ℕ) (a : length m′ ≡ length m) (b : m′ ≡ changed (below n (p ∷ [])) g m) (d : ℕ) (f : d ≡ differing n m m′) where
+    next-is : m′ ≡ changed (below n (p ∷ pairsAt words (q + 1) j)) g l
+    next-is = b ∙ ap (changed (below n (p ∷ [])) g) (w .same) ∙ pair-more g twice l n p (pairsAt words (q + 1) j)
 
-  pub set-ends : (m : List ℕ) (j : ℕ) → Pairing g l n words q k m j → k ≤ j → k ≡ getD words q 0 → m ≡ changed (below n (setAt words q)) g l
+    all-counted : changes + d ≡ differing n l m′
+    all-counted =
+        ap₂ (λ (a b : ℕ). a + b) (w .counted) f
+        ∙ sym (differing-then n l m m′ (λ x i. simp (w .same, next-is) (no-place-twice g twice l n p (pairsAt words (q + 1) j) x)))
+
+    pub set-fits : changes + d ≤ n
+    set-fits = let e = all-counted in let z = differing-most n l m′ in omega arith
+
+    pub set-goes : Pairing g l n words q k m′ (j + 1) (changes + d)
+    unfolding pairsAt
+    set-goes =
+        record {
+          most = omega arith;
+          long = a ∙ w .long;
+          same = next-is ∙ ap (λ (r : Pair). changed (below n (r ∷ pairsAt words (q + 1) j)) g l) e
+              ∙ ap (λ (i : ℕ). changed (below n (pairsAt words (q + 1) i)) g l) (sym (add-one j));
+          counted = all-counted;
+        }
+
+  pub set-ends : (m : List ℕ) (j changes : ℕ) → Pairing g l n words q k m j changes → k ≤ j → k ≡ getD words q 0
+      → (m ≡ changed (below n (setAt words q)) g l) × (changes ≡ differing n l m)
   unfolding setAt
-  set-ends m j w h e =
+  set-ends m j changes w h e =
       let o = w .most in
-      let z : j ≡ getD words q 0 = omega arith in w .same ∙ ap (λ (i : ℕ). changed (below n (pairsAt words (q + 1) i)) g l) z
+      let z : j ≡ getD words q 0 = omega arith in (w .same ∙ ap (λ (i : ℕ). changed (below n (pairsAt words (q + 1) i)) g l) z, w .counted)
 
 -- ---- the services
 
@@ -210,3 +268,24 @@ four-services has c (x ∷ y ∷ []) e = absurd (omega arith)
 four-services has c (x ∷ y ∷ z ∷ []) e = absurd (omega arith)
 four-services has c (x ∷ y ∷ z ∷ w ∷ []) e = refl
 four-services has c (x ∷ y ∷ z ∷ w ∷ v ∷ vs) e = absurd (omega arith)
+
+-- ---- counts of changes
+
+-- at how many of the mode's services two lists of four sets differ
+module _ (m : Bool) (before after : List ℕ) (a b c : ℕ) (e : a ≡ bit (differs (getD before 0 0) (getD after 0 0))) (f : b ≡ bit (differs (getD before 1 0) (getD after 1 0))) (g : c ≡ bit (differs (getD before 2 0) (getD after 2 0))) where
+  pub three-differ : not m ≡ true → a + b + c ≡ differing (serviceCount m) before after
+  unfolding differing serviceCount countFrom
+  three-differ h = simp (e, f, g, not-true m h, zero-add)
+
+  pub four-differ : not m ≡ false → (d : ℕ) → d ≡ bit (differs (getD before 3 0) (getD after 3 0)) → a + b + c + d ≡ differing (serviceCount m) before after
+  unfolding differing serviceCount countFrom
+  four-differ h d k = simp (e, f, g, k, not-false m h, zero-add)
+
+-- one set written over
+pub one-changed : (l : List ℕ) (x c v d : ℕ) → x < length l → v ≡ insert (getD l x 0) c → d ≡ bit (differs (getD l x 0) v)
+    → (set l x v ≡ set l x (insert (getD l x 0) c)) × (d ≡ bit (differs (getD l x 0) (getD (set l x v) x 0)))
+one-changed l x c v d h e f = (ap (set l x) e, f ∙ ap (λ (w : ℕ). bit (differs (getD l x 0) w)) (sym (getD-set-same l x v 0 h)))
+
+-- there is none to write
+pub none-changed : (l : List ℕ) (x c : ℕ) → length l ≤ x → (l ≡ set l x (insert (getD l x 0) c)) × (0 ≡ bit (differs (getD l x 0) (getD l x 0)))
+none-changed l x c h = (sym (set-out l x _ h), simp (eq-eqb (getD l x 0) (getD l x 0) refl))

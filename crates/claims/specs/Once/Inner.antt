@@ -1,4 +1,10 @@
 -- "Two outcomes allowed by one promise are proved equal", of the calls that are public for another crate alone.
+use mathlib.Core.Path.{_≡_, sym, ap, _∙_}
+use mathlib.Core.List.{List}
+use Prim.Native.Nat.{ℕ}
+use lib.ListN.{getD}
+use Rattle.common.specs.Instructions.{bit}
+use Rattle.rules.specs.Laws.CountLaws.{differs, differing}
 use Rattle.common.specs.AddressSets as sets
 use Rattle.modes.proofs.service_count.Reads as service-count
 use Rattle.modes.proofs.is_service.Reads as is-service
@@ -25,6 +31,13 @@ use Rattle.tags.proofs.own.Reads as own
 use Rattle.tags.proofs.join.Reads as join
 use Rattle.tags.proofs.join_at.Reads as join-at
 use Rattle.tags.proofs.join_services.Reads as join-services
+use Rattle.tags.proofs.services_joined.Reads as services-joined
+use Rattle.rows.proofs.lose.Reads as lose
+use Rattle.rows.proofs.gain.Reads as gain
+use Rattle.rows.proofs.settle.Reads as settle
+use Rattle.rows.proofs.fill.Reads as fill
+use Rattle.rows.proofs.row_at.Reads as row-at
+use Rattle.rows.specs.Views.{rowOf, table}
 use Rattle.memory.proofs.word_at.Reads as word-at
 use Rattle.memory.proofs.set_at.Reads as set-at
 use Rattle.memory.proofs.put_reg.Reads as put-reg
@@ -106,19 +119,43 @@ all-within-once κs a r q s t = same
 pub returns-once : Once returns.Post (λ κs r s. r)
 returns-once κs a r q s t = same
 
--- tags: own, join, join_at, with the memory of tags; join_services
+-- tags: own, join, join_at, with the memory of tags; join_services, services_joined
 
-pub own-once : Once own.Post (λ κs r s. s .0 .now)
-own-once κs a r q s t = same
+-- a memory and a count that the memory decides
+same-count : (f : List ℕ → ℕ) {x y z : List ℕ} {r q : ℕ} → (x ≡ z) × (r ≡ f x) → (y ≡ z) × (q ≡ f y) → _≡_ {A = ℕ × List ℕ} (r, x) (q, y)
+same-count f h k = let e = same (h .0) (k .0) in let d = h .1 ∙ ap f e ∙ sym (k .1) in λ i. (d i, e i)
 
-pub join-once : Once join.Post (λ κs r s. s .0 .now)
-join-once κs a r q s t = same
+pub own-once : Once own.Post {Out = ℕ × List ℕ} (λ κs r s. (r, s .0 .now))
+own-once κs a r q s t = same-count (differing (a .1 .1 .0) (a .0 .now))
 
-pub join-at-once : Once join-at.Post (λ κs r s. s .0 .now)
-join-at-once κs a r q s t = same
+pub join-once : Once join.Post {Out = ℕ × List ℕ} (λ κs r s. (r, s .0 .now))
+join-once κs a r q s t = same-count (differing (a .1 .1 .0) (a .0 .now))
+
+pub join-at-once : Once join-at.Post {Out = ℕ × List ℕ} (λ κs r s. (r, s .0 .now))
+join-at-once κs a r q s t = same-count (λ l. bit (differs (getD (a .0 .now) (a .1 .0) 0) (getD l (a .1 .0) 0)))
+
+pub services-joined-once : Once services-joined.Post (λ κs r s. r)
+services-joined-once κs a r q s t = same
 
 pub join-services-once : Once join-services.Post (λ κs r s. r)
 join-services-once κs a r q s t = same
+
+-- rows: lose, gain, settle, fill, with the table; row_at
+
+pub lose-once : Once lose.Post (λ κs r s. table (s .0 .now))
+lose-once κs a r q s t = same
+
+pub gain-once : Once gain.Post (λ κs r s. table (s .0 .now))
+gain-once κs a r q s t = same
+
+pub settle-once : Once settle.Post (λ κs r s. table (s .0 .now))
+settle-once κs a r q s t = same
+
+pub fill-once : Once fill.Post (λ κs r s. table (s .0 .now))
+fill-once κs a r q s t = same
+
+pub row-at-once : Once row-at.Post (λ κs r s. rowOf r)
+row-at-once κs a r q s t = same
 
 -- memory: word_at, set_at; put_reg, put_word, with the registers and the words
 

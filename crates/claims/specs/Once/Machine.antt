@@ -10,6 +10,7 @@ use Rattle.instructions.specs.declared.Decoded.{Decoded}
 use Rattle.instructions.specs.declared.Encoded.{Encoded}
 use Rattle.instructions.specs.declared.Standing.{Standing}
 use Rattle.monitor.specs.declared.Isolated.{Isolated}
+use Rattle.monitor.specs.declared.Added.{Added}
 use Rattle.monitor.specs.Outcomes.{Isolating, Adding}
 use Rattle.service.specs.Served.{Serving}
 use Rattle.service.specs.declared.Served.{Served}
@@ -35,10 +36,15 @@ use Rattle.monitor.proofs.add_target.Reads as add-target
 use Rattle.service.proofs.serve.Reads as serve
 use Rattle.machine.proofs.Processor.step.Reads as step
 use Rattle.machine.proofs.Processor.run.Reads as run
+use Rattle.machine.proofs.Processor.step_rows.Reads as step-rows
+use Rattle.machine.proofs.Processor.run_rows.Reads as run-rows
+use Rattle.rules.specs.Rows.{Row, LentStepped, LentRan}
+use Rattle.rows.specs.Views.{table}
 use Rattle.reader.proofs.number.Reads as number
 use Rattle.reader.proofs.read.Reads as read
 use Rattle.reader.proofs.check.Reads as check
 use Rattle.loader.proofs.load.Reads as load
+use Rattle.loader.proofs.load_rows.Reads as load-rows
 use Rattle.writer.proofs.write.Reads as write
 use Rattle.claims.specs.Contracts.{Once, same, same-by}
 use Rattle.claims.specs.Memories.{Tags, tags, Lists, lists, listsOf}
@@ -98,17 +104,17 @@ decide-once κs a r q s t = same
 
 pub isolate-once : Once isolate.Post {Out = Isolated × Tags} (λ κs r s. (r, tags (s .1 .1 .1 .1 .1 .1 .1)))
 isolate-once κs a r q s t =
-    same-by (λ (m : Isolating). (record { answer = m .answer; services = m .services }, (m .owners, m .jumpers, m .writers, m .readers)))
+    same-by (λ (m : Isolating). (record { answer = m .answer; services = m .services; owned = m .owned; jump = m .jump; store = m .store }, (m .owners, m .jumpers, m .writers, m .readers)))
 
-pub add-target-once : Once add-target.Post {Out = ℕ × List ℕ} (λ κs r s. (r, s .1 .1 .1 .1 .1 .0 .now))
-add-target-once κs a r q s t = same-by (λ (m : Adding). (m .answer, m .sets))
+pub add-target-once : Once add-target.Post {Out = Added × List ℕ} (λ κs r s. (r, s .1 .1 .1 .1 .1 .0 .now))
+add-target-once κs a r q s t = same-by (λ (m : Adding). (record { answer = m .answer; joined = m .joined }, m .sets))
 
 -- service: serve, with the owners, jumpers, writers and readers
 
 pub serve-once : Once serve.Post {Out = Served × Tags} (λ κs r s. (r, tags (s .1 .1 .1 .1 .1 .1 .1 .1 .1)))
 serve-once κs a r q s t =
     same-by (λ (m : Serving).
-    (record { answer = m .answer; number = m .number; next = m .next; services = m .services }, (m .owners, m .jumpers, m .writers, m .readers)))
+    (record { answer = m .answer; number = m .number; next = m .next; services = m .services; to = m .to; owned = m .owned; jump = m .jump; store = m .store }, (m .owners, m .jumpers, m .writers, m .readers)))
 
 -- machine: Processor::step, Processor::run, with the five memories
 
@@ -118,6 +124,15 @@ step-once κs a r q s t = same-by (λ (m : rules.Stepped). (record { cpu = proce
 pub run-once : Once run.Post {Out = Ran × Lists} (λ κs r s. (r, lists (s .1)))
 run-once κs a r q s t =
     same-by (λ (m : rules-run.Ran). (record { cpu = processorOf (m .state .cpu); answer = m .answer; count = m .count }, listsOf (m .state)))
+
+-- the same with a table: its rows, seen as the rules', at exit
+
+pub step-rows-once : Once step-rows.Post {Out = Stepped × Lists × List Row} (λ κs r s. (r, lists (s .1), table (s .1 .1 .1 .1 .1 .1 .0 .now)))
+step-rows-once κs a r q s t = same-by (λ (m : LentStepped). (record { cpu = processorOf (m .state .cpu); answer = m .answer }, listsOf (m .state), m .rows))
+
+pub run-rows-once : Once run-rows.Post {Out = Ran × Lists × List Row} (λ κs r s. (r, lists (s .1), table (s .1 .1 .1 .1 .1 .1 .1 .0 .now)))
+run-rows-once κs a r q s t =
+    same-by (λ (m : LentRan). (record { cpu = processorOf (m .state .cpu); answer = m .answer; count = m .count }, listsOf (m .state), m .rows))
 
 -- reader: number; read and check, which are lent the bytes and change nothing
 
@@ -137,6 +152,9 @@ check-once κs a r q s t = same-by checkedIn
 
 pub load-once : Once load.Post {Out = Loaded × Lists} (λ κs r s. (r, lists (s .1 .1)))
 load-once κs a r q s t = same-by (λ (m : images.Loaded). (record { cpu = processorOf (m .state .cpu); answer = m .answer }, listsOf (m .state)))
+
+pub load-rows-once : Once load-rows.Post {Out = Loaded × Lists × List Row} (λ κs r s. (r, lists (s .1 .1), table (s .1 .1 .1 .1 .1 .1 .1 .0 .now)))
+load-rows-once κs a r q s t = same-by (λ (m : LentStepped). (record { cpu = processorOf (m .state .cpu); answer = m .answer }, listsOf (m .state), m .rows))
 
 -- writer: write, with the buffer
 

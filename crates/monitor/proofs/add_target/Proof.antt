@@ -8,7 +8,7 @@ returns-2 : tie.Need-returns-2
 returns-2 c = no-way-back _ _ _ (c .before .before .before .owns .ensures) (c .before .before .if1 .left) _ (c .before .owns2 .ensures) (c .if2 .taken)
 
 returns-3 : tie.Need-returns-3
-returns-3 c = adds _ _ _ (c .before .before .before .before .before .before .before .owns .ensures) (c .before .before .before .before .before .before .if1 .left) _ (c .before .before .before .before .before .owns2 .ensures) (c .before .before .before .before .if2 .left) _ (c .before .before .join-at .ensures)
+returns-3 c = adds _ _ _ (c .before .before .before .before .before .before .before .owns .ensures) (c .before .before .before .before .before .before .if1 .left) _ (c .before .before .before .before .before .owns2 .ensures) (c .before .before .before .before .if2 .left) _ _ (c .before .before .join-at .ensures)
 
 pub add-target-spec : {M : Type 1} → statement M
 add-target-spec =

@@ -5,7 +5,7 @@ use Rattle.monitor.proofs.join_readers.Statement.{statement}
 use Rattle.monitor.proofs.join_readers.Tie as tie
 
 returns-2 : tie.Need-returns-2
-returns-2 c = simp (not-false (c .before .before .before .before .before .before .before .args .strict) (c .before .before .before .before .if1 .left), c .before .before .join .ensures)
+returns-2 c = simp (not-false (c .before .before .before .before .before .before .before .args .strict) (c .before .before .before .before .if1 .left), c .before .before .join .ensures .0)
 
 pub join-readers-spec : {M : Type 1} → statement M
 join-readers-spec =

@@ -50,6 +50,12 @@ drop-map f k zero l h = map-same f k l (λ x v g. h x v (omega arith))
 drop-map f k (suc n) [] h = refl
 drop-map f k (suc n) (v ∷ l) h = drop-map f (suc k) n l (λ x v g. h x v (omega arith))
 
+-- past its end a list reads as 0
+pub beyond : (l : List ℕ) (x : ℕ) → length l ≤ x → getD l x 0 ≡ 0
+beyond [] x h = refl
+beyond (y ∷ l) zero h = absurd (not-suc-le-zero h)
+beyond (y ∷ l) (suc x) h = beyond l x (le-of-suc-le-suc h)
+
 -- ---- lists that agree below n
 
 pub same-at : (n : ℕ) (l m : List ℕ) → take n l ≡ take n m → (x : ℕ) → ltb x n ≡ true → getD l x 0 ≡ getD m x 0

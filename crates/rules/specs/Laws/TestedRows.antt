@@ -32,7 +32,7 @@ pub lengths-row : (m : Bool) (s : State) → of.lengthsDiffer m s ≡ not (sameL
 unfolding of.lengthsDiffer sameLengths
 lengths-row m s = simp (not-and, not-or, Bool·not-not)
 
-form-row : (s : State) → of.badForm s ≡ not (formed s)
+pub form-row : (s : State) → of.badForm s ≡ not (formed s)
 unfolding of.badForm of.lengthsDiffer formed sized sameLengths numbered seated
 form-row s = simp (first-number, not-and, not-or, Bool·not-not, or-assoc, not-leb)
 

@@ -1,0 +1,3 @@
+-- ---- the lent table as the rules' rows, and its laws
+pub mod Views
+pub mod TableLaws
