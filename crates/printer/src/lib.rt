@@ -1,5 +1,5 @@
 // Runs an image and makes the text that the run program prints, in a lent buffer.
-mod lines;
+pub mod lines;
 
 ghost use mathlib.Core.Path.{_≡_};
 ghost use mathlib.Core.List.{[]};
