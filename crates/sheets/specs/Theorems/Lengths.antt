@@ -1,0 +1,77 @@
+-- How long a line and the totals' line are at most.
+use mathlib.Core.Bool.{Bool, true, false, cond}
+use mathlib.Core.List.{List, [], _∷_, _++_}
+use mathlib.Core.Path.{_≡_, refl}
+use Prim.Native.Nat.{ℕ, zero, suc, _+_, _*_, _≤_, _<_}
+use native.Mathlib.Omega.{arith}
+use borrow.Author.Tests.{ltb-true, ltb-false}
+use lib.Dec.{eqb, ltb}
+use lib.ListN.{getD, length, length-append}
+use Rattle.common.specs.Answers as answer
+use Rattle.rules.specs.Compartments.{numbers, member}
+use Rattle.numerals.specs.Bytes.{bytes}
+use Rattle.numerals.specs.Numerals.{decimal}
+use Rattle.numerals.specs.Laws.Widths.{width-most, length-decimal}
+use Rattle.printed.specs.Text.{field, lineEnd, Line, firstFields}
+use Rattle.printed.specs.Theorems.Lengths.{Word, field-most}
+use Rattle.sheets.specs.Lines.{membersFrom, members, numbersText, writersText, ran, lineText}
+use Rattle.sheets.specs.Totals.{answers, Totals, halted, used, stopped, isStop, stopsFrom, stops, stopsText, totalsText}
+
+-- 107 bytes of the first line's fields, ` writers` and 64 numbers of two digits, and the line's end
+abbrev pub longest : ℕ
+longest = 308
+
+two-digits : (name : List ℕ) (x : ℕ) → x < 100 → length (field name x) ≤ length name + 2
+unfolding field
+two-digits name x h = let d = length-decimal x in let w = width-most 1 x (omega arith) in let l = length-append name (decimal x) in omega arith
+
+numbers-most : (set k c : ℕ) → c + k ≤ 100 → length (numbersText (membersFrom k c set)) ≤ 3 * k
+unfolding numbersText membersFrom
+numbers-most set zero c h = omega arith
+numbers-most set (suc k) c h = go (member set c) (numbers-most set k (suc c) (omega arith))
+  where
+    go : (b : Bool) → length (numbersText (membersFrom k (suc c) set)) ≤ 3 * k
+        → length (numbersText (cond b (c ∷ membersFrom k (suc c) set) (membersFrom k (suc c) set))) ≤ 3 * suc k
+    go true ih =
+        let f = two-digits (bytes " ") c (omega arith) in
+        let l = length-append (field (bytes " ") c) (numbersText (membersFrom k (suc c) set)) in
+        omega arith
+    go false ih = omega arith
+
+pub members-most : (set : ℕ) → length (numbersText (members set)) ≤ 192
+members-most set = numbers-most set numbers 0 (omega arith)
+
+-- ---- the totals, where each of their numbers is one of 32 bits
+
+pub record SmallTotals (t : Totals) : Type 0 where
+  pub images : Word (t .images)
+  pub refused : Word (t .refused)
+  pub ended : (a : ℕ) → Word (getD (t .ended) a 0)
+  pub steps : Word (t .steps)
+
+stops-from : (strict : Bool) (t : Totals) → SmallTotals t → (k a : ℕ) → a + k ≤ 100 → length (stopsText (stopsFrom strict k a) t) ≤ 14 * k
+unfolding stopsText stopsFrom
+stops-from strict t s zero a h = omega arith
+stops-from strict t s (suc k) a h = go (isStop strict a) (stops-from strict t s k (suc a) (omega arith))
+  where
+    go : (b : Bool) → length (stopsText (stopsFrom strict k (suc a)) t) ≤ 14 * k
+        → length (stopsText (cond b (a ∷ stopsFrom strict k (suc a)) (stopsFrom strict k (suc a))) t) ≤ 14 * suc k
+    go true ih =
+        let f = two-digits (bytes " ") a (omega arith) in
+        let g = field-most (bytes " ") (stopped t a) (s .ended a) in
+        let l = length-append (field (bytes " ") a) (field (bytes " ") (stopped t a)) in
+        let m = length-append (field (bytes " ") a ++ field (bytes " ") (stopped t a)) (stopsText (stopsFrom strict k (suc a)) t) in
+        omega arith
+    go false ih = omega arith
+
+-- 98 bytes of five names with their numbers, ` stopped` and the line's end, and 14 of each of 18 answers
+pub totals-most : (strict : Bool) (t : Totals) → SmallTotals t → length (totalsText strict t) ≤ 350
+unfolding totalsText
+totals-most strict t s =
+    let a = field-most (bytes "images ") (t .images) (s .images) in
+    let b = field-most (bytes " refused ") (t .refused) (s .refused) in
+    let c = field-most (bytes " halted ") (halted t) (s .ended answer.halt) in
+    let d = stops-from strict t s answers 0 (omega arith) in
+    let e = field-most (bytes " budget ") (used t) (s .ended answer.done) in
+    let f = field-most (bytes " steps ") (t .steps) (s .steps) in
+    simp length-append (omega arith)
