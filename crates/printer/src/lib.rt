@@ -17,9 +17,9 @@ use crate::lines::put_rows;
 use machine::Ran;
 
 // How many steps an image may take, and how many places its memories have.
-const BUDGET: u32 = 100000;
+pub const BUDGET: u32 = 100000;
 
-const PLACES: usize = 2048;
+pub const PLACES: usize = 2048;
 
 // No text is longer: 108 bytes of a first line, and 44 of each of 64 compartments.
 pub const LONGEST: usize = 2924;

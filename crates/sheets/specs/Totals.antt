@@ -85,16 +85,16 @@ stops strict = stopsFrom strict answers 0
 
 -- ---- their text, of one shape whatever happened
 
--- each stop and its count
-unfoldable pub stopsText : List ℕ → Totals → List ℕ
-stopsText [] t = []
-stopsText (a ∷ rest) t = (field (bytes " ") a ++ field (bytes " ") (stopped t a)) ++ stopsText rest t
+-- each stop and its count, of the counts by answer
+unfoldable pub stopsText : List ℕ → List ℕ → List ℕ
+stopsText [] ended = []
+stopsText (a ∷ rest) ended = (field (bytes " ") a ++ field (bytes " ") (getD ended a 0)) ++ stopsText rest ended
 
 -- `images I refused R halted H stopped 2 a 3 b .. 13 l 16 m budget B steps S`
 unfoldable pub totalsText : Bool → Totals → List ℕ
 totalsText strict t =
     field (bytes "images ") (t .images) ++ field (bytes " refused ") (t .refused) ++ field (bytes " halted ") (halted t) ++ bytes " stopped"
-    ++ stopsText (stops strict) t ++ field (bytes " budget ") (used t) ++ field (bytes " steps ") (t .steps) ++ lineEnd
+    ++ stopsText (stops strict) (t .ended) ++ field (bytes " budget ") (used t) ++ field (bytes " steps ") (t .steps) ++ lineEnd
 
 -- ---- how a night ended: 0 where every image halted, else 1
 

@@ -15,13 +15,13 @@ use Rattle.numerals.specs.Laws.Widths.{width-most, length-decimal}
 use Rattle.printed.specs.Text.{field, lineEnd, Line, firstFields}
 use Rattle.printed.specs.Theorems.Lengths.{Word, field-most}
 use Rattle.sheets.specs.Lines.{membersFrom, members, numbersText, writersText, ran, lineText}
-use Rattle.sheets.specs.Totals.{answers, Totals, halted, used, stopped, isStop, stopsFrom, stops, stopsText, totalsText}
+use Rattle.sheets.specs.Totals.{answers, Totals, halted, used, isStop, stopsFrom, stops, stopsText, totalsText}
 
 -- 107 bytes of the first line's fields, ` writers` and 64 numbers of two digits, and the line's end
 abbrev pub longest : ℕ
 longest = 308
 
-two-digits : (name : List ℕ) (x : ℕ) → x < 100 → length (field name x) ≤ length name + 2
+pub two-digits : (name : List ℕ) (x : ℕ) → x < 100 → length (field name x) ≤ length name + 2
 unfolding field
 two-digits name x h = let d = length-decimal x in let w = width-most 1 x (omega arith) in let l = length-append name (decimal x) in omega arith
 
@@ -49,18 +49,18 @@ pub record SmallTotals (t : Totals) : Type 0 where
   pub ended : (a : ℕ) → Word (getD (t .ended) a 0)
   pub steps : Word (t .steps)
 
-stops-from : (strict : Bool) (t : Totals) → SmallTotals t → (k a : ℕ) → a + k ≤ 100 → length (stopsText (stopsFrom strict k a) t) ≤ 14 * k
+stops-from : (strict : Bool) (ended : List ℕ) → ((a : ℕ) → Word (getD ended a 0)) → (k a : ℕ) → a + k ≤ 100 → length (stopsText (stopsFrom strict k a) ended) ≤ 14 * k
 unfolding stopsText stopsFrom
-stops-from strict t s zero a h = omega arith
-stops-from strict t s (suc k) a h = go (isStop strict a) (stops-from strict t s k (suc a) (omega arith))
+stops-from strict ended s zero a h = omega arith
+stops-from strict ended s (suc k) a h = go (isStop strict a) (stops-from strict ended s k (suc a) (omega arith))
   where
-    go : (b : Bool) → length (stopsText (stopsFrom strict k (suc a)) t) ≤ 14 * k
-        → length (stopsText (cond b (a ∷ stopsFrom strict k (suc a)) (stopsFrom strict k (suc a))) t) ≤ 14 * suc k
+    go : (b : Bool) → length (stopsText (stopsFrom strict k (suc a)) ended) ≤ 14 * k
+        → length (stopsText (cond b (a ∷ stopsFrom strict k (suc a)) (stopsFrom strict k (suc a))) ended) ≤ 14 * suc k
     go true ih =
         let f = two-digits (bytes " ") a (omega arith) in
-        let g = field-most (bytes " ") (stopped t a) (s .ended a) in
-        let l = length-append (field (bytes " ") a) (field (bytes " ") (stopped t a)) in
-        let m = length-append (field (bytes " ") a ++ field (bytes " ") (stopped t a)) (stopsText (stopsFrom strict k (suc a)) t) in
+        let g = field-most (bytes " ") (getD ended a 0) (s a) in
+        let l = length-append (field (bytes " ") a) (field (bytes " ") (getD ended a 0)) in
+        let m = length-append (field (bytes " ") a ++ field (bytes " ") (getD ended a 0)) (stopsText (stopsFrom strict k (suc a)) ended) in
         omega arith
     go false ih = omega arith
 
@@ -71,7 +71,7 @@ totals-most strict t s =
     let a = field-most (bytes "images ") (t .images) (s .images) in
     let b = field-most (bytes " refused ") (t .refused) (s .refused) in
     let c = field-most (bytes " halted ") (halted t) (s .ended answer.halt) in
-    let d = stops-from strict t s answers 0 (omega arith) in
+    let d = stops-from strict (t .ended) (s .ended) answers 0 (omega arith) in
     let e = field-most (bytes " budget ") (used t) (s .ended answer.done) in
     let f = field-most (bytes " steps ") (t .steps) (s .steps) in
     simp length-append (omega arith)
