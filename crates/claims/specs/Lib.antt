@@ -15,5 +15,6 @@ pub mod CodeAgreement
 pub mod CodeSources
 pub mod CodeCounts
 pub mod CodePrinted
+pub mod CodeSheets
 pub mod Checking
 pub mod Once

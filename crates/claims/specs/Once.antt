@@ -5,3 +5,4 @@ pub mod Inner
 pub mod Host
 pub mod Sources
 pub mod Printed
+pub mod Sheets

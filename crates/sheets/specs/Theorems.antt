@@ -4,4 +4,5 @@ pub mod Sums
 pub mod Exact
 pub mod Images
 pub mod Lengths
+pub mod Telling
 pub mod Run
