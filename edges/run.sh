@@ -7,7 +7,7 @@ root=$(cd "$(dirname "${BASH_SOURCE[0]}")/.." && pwd)
 me=edges
 # shellcheck source=bench/tools.sh
 . "$root/bench/tools.sh"
-for part in checking reading writing building saying hosts; do
+for part in checking reading writing sheets building saying hosts; do
     # shellcheck source=/dev/null
     . "$root/edges/$part.sh"
 done
@@ -23,6 +23,7 @@ prepare
 read_checks
 write_checks
 program_checks
+sheet_checks
 building_checks
 saying_checks
 host_checks

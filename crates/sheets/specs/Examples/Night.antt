@@ -30,6 +30,12 @@ use Rattle.sheets.specs.Theorems.Images.{entries}
 abbrev image : List ℕ → List ℕ
 image words = imageBytes words (replicate 16 0) 0
 
+-- main isolates a word that 4 may write, so 5 owns it, and then stores to it
+abbrev image-shared : List ℕ
+image-shared =
+    17825807 ∷ 18874379 ∷ 19922956 ∷ 20975616 ∷ 188743680 ∷ 17825804 ∷ 19922955 ∷ 188743680 ∷ 22020115 ∷ 156565504 ∷ 218103808 ∷ 0 ∷ 1 ∷ 19 ∷ 20
+    ∷ 1 ∷ 18 ∷ 19 ∷ 0 ∷ 0 ∷ []
+
 abbrev night : List (List ℕ)
 night = image image-one ∷ image image-two ∷ [] ∷ []
 
@@ -40,6 +46,7 @@ pub record Night : Type 0 where
   pub one : says (image image-one) ≡ bytes "answer 3 steps 3 pc 3 prev 0 jumped 0 next 4 widest 1" ++ text.lineEnd
   -- nobody is in W of the word that it would store to
   pub two : says (image image-two) ≡ bytes "answer 7 steps 7 pc 6 prev 0 jumped 0 next 5 widest 1 writers" ++ text.lineEnd
+  pub shared : says (image image-shared) ≡ bytes "answer 7 steps 11 pc 9 prev 0 jumped 0 next 6 widest 2 writers 4" ++ text.lineEnd
   pub nothing : says [] ≡ bytes "refused 20" ++ text.lineEnd
   pub writers : lines.numbersText (lines.members (2 ^ 0 + 2 ^ 9 + 2 ^ 10 + 2 ^ 63)) ≡ bytes " 0 9 10 63"
   -- what the program counts is what the lines say
@@ -52,4 +59,4 @@ pub record Night : Type 0 where
 
 pub sheet : Night
 unfolding writerCount mostBelow widest sizeBelow row allowed decode arithmetic branch pcAfter regsAfter wordsAfter jumps serviceCount isService serviceAt isServiceNumber pairsAt setAt inside ordered goodSet isEmpty inSet allFrom within member insert upTo serviceNumbers mainAlone firstNumber inMemory hasOwner ownerAt jumpersAt writersAt readersAt owns mayJump mayStore mayRead reads checks.lengthsDiffer checks.badForm checks.noPlace checks.wrongOwner checks.noArrival checks.instructionAt checks.noInstruction checks.loadOutside checks.loadForbidden checks.storeOutside checks.storeForbidden checks.halts checks.goodSets checks.badSets checks.emptySet checks.setsWithin checks.notWithin checks.notOwned checks.returns checks.noReturn checks.noNumber checks.checks checks.verdict step.ranInstruction step.mapFrom step.owned step.joined step.joinedServices step.isolated step.jumpAdded step.storeAdded step.readAdded step.ranService step.commit step.step run field fields firstOf entryChecks lastZero registerChecks imageChecks loadChecks blank loaded notLoaded loadVerdict load allBytes section listed imageBytes decimal widthBy text.field text.firstFields text.refusedLine lineOf lines.membersFrom lines.targetWriters lines.ranEntry lines.loadEntry lines.entry lines.numbersText lines.writersText lines.lineText totals.noteOf totals.countOf totals.endedFrom totals.stepsOf totals.totals totals.isStop totals.stopsFrom totals.stopsText totals.totalsText none added tally entries
-sheet = record { one = refl; two = refl; nothing = refl; writers = refl; counted = refl; all = refl; empty = refl }
+sheet = record { one = refl; two = refl; shared = refl; nothing = refl; writers = refl; counted = refl; all = refl; empty = refl }
