@@ -108,6 +108,17 @@ long_list() {
     could_not "bytes"
 }
 
+# README's example is what the command prints.
+readme_sheet() {
+    local shown
+    shown=$(awk '/card sheet -- samples/ { near = 1 } near && /^```/ { if (inside) exit; inside = 1; next } inside' "$root/README.md")
+    [ -n "$shown" ] || wrong "README has no example"
+    cd "$root"
+    attempt "$card" sheet -- samples/*.img
+    ends_with 1
+    writes "$shown"
+}
+
 sheet_program_could_not() { # LINE
     local launch program
     find_program card_sheet
@@ -133,6 +144,7 @@ sheet_checks() {
     check fails_half_way -- "sheet: a file that is opened and cannot be read is refused 20"
     check name_with_feed -- "sheet: a name with a line feed cannot be listed"
     check named_as_help -- "sheet: behind -- every word is a name"
+    check readme_sheet -- "sheet: README's example is what it prints"
     check long_list -- "sheet: a list that does not end"
     printf 'halt.img\n' >"$room/list"
     check full_output sheet "$room/list" -- "sheet: standard output is full"

@@ -6,13 +6,11 @@ use Prim.Native.Nat.{ℕ, _+_, _≤_}
 use native.Mathlib.Omega.{arith}
 use borrow.Author.Tests.{eq-eqb, ne-eqb}
 use lib.Dec.{eqb}
-use lib.ListN.{length, length-append, take, replicate, length-replicate}
-use lib.Seq.{sets, length-take-le}
+use lib.ListN.{length, length-append, take, replicate}
 use Rattle.common.specs.Answers as answer
 use Rattle.numerals.specs.Bytes.{bytes}
 use Rattle.numerals.specs.Writing.{Put, put}
-use Rattle.text.specs.Puts.{putOf, put-behind, put-whole, put-length}
-use Rattle.text.specs.Stores.{front}
+use Rattle.text.specs.Puts.{putOf, put-behind}
 use Rattle.rules.specs.Images as images
 use Rattle.rules.specs.Run as rules
 use Rattle.rules.specs.Checks.{instructionAt}
@@ -25,6 +23,7 @@ use Rattle.report.specs.Wholes.{widest-whole}
 use Rattle.printed.specs.Text.{lineEnd, Line, firstFields, refusedLine}
 use Rattle.printed.specs.Outcome.{budget, memories, lineOf}
 use Rattle.printer.specs.Views.{line}
+use Rattle.printer.specs.Made.{made-text}
 use Rattle.sheets.specs.Lines.{members, targetWriters, Entry, refused, ran, ranEntry, loadEntry, entry, numbersText, writersText, lineText}
 use Rattle.sheets.specs.Totals.{Note, noteOf}
 use Rattle.sheets.specs.Told as told
@@ -119,30 +118,11 @@ module _ (strict : Bool) (input : List ℕ) (l : Loaded) (words owners jumpers w
     pub ran-short : length (lineText (ranEntry (ranOf r words′ owners′ [] writers′ []))) ≤ 308 → length (lineText (entry strict input)) ≤ 308
     ran-short h = let e = ap (λ (o : Entry). length (lineText o)) ran-is in omega arith
 
--- ---- a text in a buffer of its own
+-- ---- in the lent buffer
 
-module _ (text : List ℕ) (most n : ℕ) (made : List ℕ) (makes : putOf n made ≡ put text 0 (replicate most 0)) (short : length text ≤ most) where
-  whole : (n ≡ 0 + length text) × (made ≡ sets (replicate most 0) 0 text)
-  whole = let l = length-replicate {A = ℕ} most 0 in put-whole text (replicate most 0) 0 (omega arith) n made makes
-
-  pub made-length : n ≤ length made
-  made-length =
-      let l = length-replicate {A = ℕ} most 0 in
-      let k = put-length text (replicate most 0) 0 n made makes in
-      let w = whole .0 in
-      omega arith
-
-  pub made-count : n ≡ length (take n made)
-  made-count = sym (length-take-le n made made-length)
-
-  made-text : take n made ≡ text
-  made-text =
-      let l = length-replicate {A = ℕ} most 0 in
-      let w : n ≡ 0 + length text = whole .0 in
-      front text (replicate most 0) made n (omega arith) (omega arith) (whole .1)
-
-  pub made-told : (out : List ℕ) (t : told.Told) → t ≡ told.tell (take n made) out → t ≡ told.tell text out
-  made-told out t e = e ∙ ap (λ (x : List ℕ). told.tell x out) made-text
+pub made-told : (text : List ℕ) (most n : ℕ) (made : List ℕ) → putOf n made ≡ put text 0 (replicate most 0) → length text ≤ most
+    → (out : List ℕ) (t : told.Told) → t ≡ told.tell (take n made) out → t ≡ told.tell text out
+made-told text most n made makes short out t e = e ∙ ap (λ (x : List ℕ). told.tell x out) (made-text text most n made makes short)
 
 -- the line and its note
 pub line-told : (strict : Bool) (input out : List ℕ) (n : Note) (p : Put) → record { note = n; made = p } ≡ meantOf (entry strict input) out

@@ -1,5 +1,6 @@
 -- The line stands in a buffer of its own, and then in the lent one, where it has room.
-use Rattle.sheet.specs.LineMaking.{line-told, made-length, made-count, made-told, lined}
+use Rattle.printer.specs.Made.{made-length, made-count}
+use Rattle.sheet.specs.LineMaking.{line-told, made-told, lined}
 use borrow.Author.Needs.{needs}
 use Rattle.sheet.proofs.line.Statement.{statement}
 use Rattle.sheet.proofs.line.Tie as tie

@@ -1,6 +1,7 @@
 -- The totals' line stands in a buffer of its own, and then in the lent one, where it has room.
 use Rattle.sheets.specs.Told.{total}
-use Rattle.sheet.specs.LineMaking.{made-length, made-count, made-told}
+use Rattle.printer.specs.Made.{made-length, made-count}
+use Rattle.sheet.specs.LineMaking.{made-told}
 use borrow.Author.Needs.{needs}
 use Rattle.sheet.proofs.total.Statement.{statement}
 use Rattle.sheet.proofs.total.Tie as tie
