@@ -8,10 +8,10 @@ totals_of() { # IMAGES REFUSED HALTED BUDGET STEPS
     printf 'images %s refused %s halted %s stopped 2 0 3 0 4 0 5 0 6 0 7 0 8 0 9 0 10 0 11 0 12 0 13 0 16 0 budget %s steps %s' "$@"
 }
 
-# A list, given as a text for printf, is tried in the folder of the images.
+# A list, given with its escapes, is tried in the folder of the images.
 sheet_of() { # TEXT
-    printf "$1" >"$room/list"
-    cd "$room"
+    printf %b "$1" >"$room/list"
+    cd "$room" || return
     attempt "$card" sheet list
 }
 
@@ -64,7 +64,7 @@ after_10000() {
 most_steps() {
     command -v script >/dev/null || skip "the command script is not there"
     yes loop.img | head -n 10000 >"$room/list"
-    cd "$room"
+    cd "$room" || return
     attempt script -qec "'$card' sheet list" /dev/null
     ends_with 1
     case $out in *" of 10000 images"*) ;; *) wrong "it shows no progress" ;; esac
@@ -76,15 +76,15 @@ unreadable() {
     find_nobody
     (umask 077 && cp "$room/halt.img" "$room/shut.img")
     [ "$(id -u)" = 0 ] || chmod 000 "$room/shut.img"
-    cd "$room"
+    cd "$room" || return
     attempt "${as_nobody[@]}" "$card" sheet -- shut.img halt.img
     ends_with 1
     writes "refused 20"$'\n'"$halts"$'\n'"$(totals_of 2 1 1 0 0)"
 }
 
 # A file that is opened, and whose reading fails.
-fails_half_way() {
-    cd "$room"
+opened_unread() {
+    cd "$room" || return
     attempt "$card" sheet -- /proc/self/mem halt.img
     ends_with 1
     writes "refused 20"$'\n'"$halts"$'\n'"$(totals_of 2 1 1 0 0)"
@@ -97,7 +97,7 @@ name_with_feed() {
 
 named_as_help() {
     cp "$room/halt.img" "$room/-h"
-    cd "$room"
+    cd "$room" || return
     attempt "$card" sheet -- -h
     ends_with 0
     writes "$halts"$'\n'"$(totals_of 1 0 1 0 0)"
@@ -108,19 +108,28 @@ long_list() {
     could_not "bytes"
 }
 
+# The images that the sheet program is given are those of the sources beside them.
+stored_images() {
+    local source
+    for source in "$root"/crates/card_sheet/data/*.kl; do
+        attempt "$card" asm "$source" -
+        ends_with 0
+        cmp "$room/out" "${source%.kl}.img" || wrong "$source has another image"
+    done
+}
+
 # README's example is what the command prints.
 readme_sheet() {
     local shown
     shown=$(awk '/card sheet -- samples/ { near = 1 } near && /^```/ { if (inside) exit; inside = 1; next } inside' "$root/README.md")
     [ -n "$shown" ] || wrong "README has no example"
-    cd "$root"
+    cd "$root" || return
     attempt "$card" sheet -- samples/*.img
     ends_with 1
     writes "$shown"
 }
 
 sheet_program_could_not() { # LINE
-    local launch program
     find_program card_sheet
     find_launch
     program_could_not "$1"
@@ -135,15 +144,16 @@ sheet_checks() {
     check refused_name '\n' -- "sheet: an empty name is refused 20"
     check refused_name 'none.img\n' -- "sheet: a file that is not there is refused 20"
     check refused_name '.\n' -- "sheet: a directory is refused 20"
-    check refused_name 'halt.img\\000\n' -- "sheet: a name with a zero byte is refused 20"
+    check refused_name 'halt.img\0000\n' -- "sheet: a name with a zero byte is refused 20"
     check refused_name 'halt.img\r\n' -- "sheet: CR belongs to the name"
     check overlong_between -- "sheet: a name of 5,000 bytes between two good ones"
     check after_10000 -- "sheet: after 10,000 names the list ends"
     check most_steps -- "sheet: 10,000 images of 100,000 steps, with progress on a terminal"
     check unreadable -- "sheet: a file that may not be read is refused 20, and the next is run"
-    check fails_half_way -- "sheet: a file that is opened and cannot be read is refused 20"
+    check opened_unread -- "sheet: a file that is opened and cannot be read is refused 20"
     check name_with_feed -- "sheet: a name with a line feed cannot be listed"
     check named_as_help -- "sheet: behind -- every word is a name"
+    check stored_images -- "the sheet program's images are those of their sources"
     check readme_sheet -- "sheet: README's example is what it prints"
     check long_list -- "sheet: a list that does not end"
     printf 'halt.img\n' >"$room/list"
