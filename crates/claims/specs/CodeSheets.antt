@@ -1,17 +1,18 @@
 -- The sheet of a night of images, of every outcome that the contracts of the calls allow: the line to the byte, the totals of the lines, their text.
-use mathlib.Core.Path.{_≡_, refl, sym, ap, _∙_, subst}
+use mathlib.Core.Path.{_≡_, sym, ap, _∙_, subst}
 use mathlib.Core.Bool.{Bool}
 use mathlib.Core.List.{List, [], _∷_, _++_}
 use Prim.Native.Nat.{ℕ, _+_, _≤_, _<_}
 use native.Mathlib.Omega.{arith}
-use lib.ListN.{length, drop, length-append}
-use Rattle.sheets.specs.Lines.{Entry, entry, lineText}
+use lib.ListN.{getD, length, drop}
+use Rattle.sheets.specs.Lines.{entry, lineText}
 use Rattle.sheets.specs.Totals.{Note, noteOf, Totals, totals, totalsText, status, halted, used, stopped, stops}
 use Rattle.sheets.specs.Told as told
 use Rattle.sheets.specs.Told.{Told, Lined, tally}
 use Rattle.sheets.specs.Theorems.Sums.{sumOf}
 use Rattle.sheets.specs.Theorems.Exact.{most}
 use Rattle.sheets.specs.Theorems.Images.{entries, night-exact, night-sum}
+use Rattle.sheets.specs.Theorems.Bound.{line-most, night-most}
 use Rattle.sheets.specs.Theorems.Telling as telling
 use Rattle.sheet.specs.Views as seen
 use Rattle.sheet.proofs.line.Reads as line-of
@@ -83,6 +84,10 @@ module _ (strict : Bool) (input out : List ℕ) (o : Lined) (h : Allows line-of.
   unfolding told.line
   lined = tells (lineText (entry strict input)) out (o .told) (ap (λ (x : Lined). x .told) is)
 
+  -- 308 bytes are room for the line of any bytes
+  pub line-roomy : ((i : ℕ) → i < length input → getD input i 0 < 256) → 308 ≤ length out → o .told .answer ≡ 0
+  line-roomy byte r = let m = line-most strict input byte in lined .whole (omega arith) .0
+
 -- ---- a night: from no lines on, each image's line is made and its note added
 
 -- from the totals t, over these inputs in order, to the totals u
@@ -129,3 +134,7 @@ module _ (strict : Bool) (inputs : List (List ℕ)) (t : Totals) (n : Night stri
   -- 0 where every image halted, else 1
   pub ended : (r : ℕ) → Allows ended-of.Post by-ended t r → r ≡ status (totals (entries strict inputs))
   ended r h = allowed ended-of.Post by-ended t r h ∙ ap status exact
+
+  -- 350 bytes are room for it
+  pub totals-roomy : (out : List ℕ) (o : Told) → Allows total-of.Post by-total (strict, t, out) o → 350 ≤ length out → o .answer ≡ 0
+  totals-roomy out o h r = let m = night-most strict inputs few in told-totals out o h .whole (omega arith) .0

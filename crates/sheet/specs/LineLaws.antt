@@ -8,7 +8,7 @@ use native.Mathlib.Omega.{arith}
 use native.Mathlib.Nat.{add-zero}
 use borrow.Author.Tests.{ltb-true, ltb-false, lt-ltb, le-ltb, le-leb, lt-leb, ne-eqb, eq-eqb}
 use lib.Dec.{eqb, ltb}
-use lib.ListN.{getD, length, length-append}
+use lib.ListN.{getD, length}
 use lib.Pow.{shr-shr}
 use Rattle.common.specs.Answers as answer
 use Rattle.common.specs.Words.{decode}
@@ -23,7 +23,6 @@ use Rattle.images.specs.Stores.{sets-over}
 use Rattle.printed.specs.Text.{field}
 use Rattle.sheets.specs.Lines.{membersFrom, members, targetWriters, numbersText, writersText}
 use Rattle.sheets.specs.Told.{tell}
-use Rattle.sheets.specs.Theorems.Lengths.{members-most}
 
 -- ---- nothing put
 
@@ -169,14 +168,6 @@ no-writers a ws n = simp (ne-eqb a answer.store-forbidden n)
 pub some-writers : (a : ℕ) (ws : List ℕ) → a ≡ answer.store-forbidden → writersText a ws ≡ bytes " writers" ++ numbersText ws
 unfolding writersText
 some-writers a ws e = simp (eq-eqb a answer.store-forbidden e)
-
-pub writers-most : (a set : ℕ) → length (writersText a (members set)) ≤ 200
-unfolding writersText
-writers-most a set = go (eqb a answer.store-forbidden)
-  where
-    go : (b : Bool) → length (cond b (bytes " writers" ++ numbersText (members set)) []) ≤ 200
-    go true = let m = members-most set in let l = length-append (bytes " writers") (numbersText (members set)) in omega arith
-    go false = omega arith
 
 -- ---- in the lent buffer
 

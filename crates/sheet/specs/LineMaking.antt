@@ -27,19 +27,10 @@ use Rattle.printer.specs.Made.{made-text}
 use Rattle.sheets.specs.Lines.{members, targetWriters, Entry, refused, ran, ranEntry, loadEntry, entry, numbersText, writersText, lineText}
 use Rattle.sheets.specs.Totals.{Note, noteOf}
 use Rattle.sheets.specs.Told as told
+use Rattle.sheets.specs.Theorems.Lengths.{writers-asked, writers-most}
 use Rattle.sheet.specs.Views.{Meant, meantOf}
-use Rattle.sheet.specs.LineLaws.{writers-most}
 
 -- ---- the line of a run
-
--- where the answer is not 7, the writers are not asked
-writers-asked : (a : ℕ) (ws : List ℕ) → writersText a ws ≡ writersText a (cond (eqb a answer.store-forbidden) ws [])
-unfolding writersText
-writers-asked a ws = go (eqb a answer.store-forbidden)
-  where
-    go : (b : Bool) → cond b (bytes " writers" ++ numbersText ws) [] ≡ cond b (bytes " writers" ++ numbersText (cond b ws [])) []
-    go true = refl
-    go false = refl
 
 module _ (r : Ran) (words owners writers : List ℕ) (wide set : ℕ) (ew : wide ≡ widest (stateOf (r .cpu) [] owners [] writers []))
     (es : set ≡ targetWriters (stateOf (r .cpu) words [] [] writers [])) where

@@ -5,5 +5,6 @@ pub mod Sums
 pub mod Exact
 pub mod Images
 pub mod Lengths
+pub mod Bound
 pub mod Telling
 pub mod Run

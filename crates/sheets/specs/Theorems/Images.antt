@@ -94,7 +94,7 @@ unfolding AllListed entries
 all-listed strict [] = record {}
 all-listed strict (input ∷ inputs) = (listed strict input, all-listed strict inputs)
 
-all-small : (strict : Bool) (inputs : List (List ℕ)) → AllSmall (entries strict inputs)
+pub all-small : (strict : Bool) (inputs : List (List ℕ)) → AllSmall (entries strict inputs)
 unfolding AllSmall entries
 all-small strict [] = record {}
 all-small strict (input ∷ inputs) = (small strict input, all-small strict inputs)

@@ -41,6 +41,23 @@ numbers-most set (suc k) c h = go (member set c) (numbers-most set k (suc c) (om
 pub members-most : (set : ℕ) → length (numbersText (members set)) ≤ 192
 members-most set = numbers-most set numbers 0 (omega arith)
 
+-- where the answer is not 7, the writers are not asked
+pub writers-asked : (a : ℕ) (ws : List ℕ) → writersText a ws ≡ writersText a (cond (eqb a answer.store-forbidden) ws [])
+unfolding writersText
+writers-asked a ws = go (eqb a answer.store-forbidden)
+  where
+    go : (b : Bool) → cond b (bytes " writers" ++ numbersText ws) [] ≡ cond b (bytes " writers" ++ numbersText (cond b ws [])) []
+    go true = refl
+    go false = refl
+
+pub writers-most : (a set : ℕ) → length (writersText a (members set)) ≤ 200
+unfolding writersText
+writers-most a set = go (eqb a answer.store-forbidden)
+  where
+    go : (b : Bool) → length (cond b (bytes " writers" ++ numbersText (members set)) []) ≤ 200
+    go true = let m = members-most set in let l = length-append (bytes " writers") (numbersText (members set)) in omega arith
+    go false = omega arith
+
 -- ---- the totals, where each of their numbers is one of 32 bits
 
 pub record SmallTotals (t : Totals) : Type 0 where
