@@ -53,6 +53,43 @@ together() { # TABLES
         }' "$@"
 }
 
+# The least of ROUNDS times of a program over ROOM/list, in milliseconds; what it wrote is in ROOM/NAME.
+night_ms() { # NAME ROUNDS COMMAND...
+    local name=$1 rounds=$2 least='' began took
+    shift 2
+    while [ "$rounds" -gt 0 ]; do
+        began=$(date +%s%N)
+        "$@" <"$room/list" >"$room/$name" 2>/dev/null || missing "the sheet of $name failed" "run '$*' by itself"
+        took=$(($(date +%s%N) - began))
+        if [ -z "$least" ] || [ "$took" -lt "$least" ]; then least=$took; fi
+        rounds=$((rounds - 1))
+    done
+    awk -v ns="$least" 'BEGIN { printf "%.2f", ns / 1000000 }'
+}
+
+# A sheet of 1,000 files of 1,000 steps each, a process for the whole list: the program beside plain C that does the same, with the
+# same text. A row of its own, outside the ratio.
+night_row() { # ROUNDS
+    local i c ours
+    # Const 499 r1, Const 1 r2, Sub r1 r2 r1, Bnz r1 back to it, Halt; no registers, entry 0
+    printf '\005\0\0\0\363\001\020\001\001\0\040\001\001\0\022\004\377\377\020\014\0\0\0\015\0\0\0\0\001\0\0\0\0\0\0\0' >"$room/image"
+    mkdir "$room/night"
+    for ((i = 0; i < 1000; i++)); do cp "$room/image" "$room/night/$i.img"; done
+    printf '%s\n' "$room"/night/*.img >"$room/list"
+    options=''
+    build night "$root/bench/night.c" "$root/bench/sheet.c" "$root/bench/sheet_images.c" "$root/bench/sheet_counts.c"
+    c=$(night_ms C "$1" ${emulator:+"$emulator"} "$program")
+    find_program card_sheet
+    ours=$(night_ms ours "$1" ${emulator:+"$emulator"} "$program")
+    cmp "$room/C" "$room/ours" >&2 || missing "the sheet and the plain C differ" "bench/night.c is the plain C"
+    awk -v c="$c" -v ours="$ours" 'BEGIN { printf "%-30s %12d %10.2f %10.2f %8.2f  (outside the ratio)\n", "a sheet of 1,000 images", 1000000, c, ours, c / ours }'
+}
+
+# The table, with that row before its last line.
+with_night() { # TABLES
+    together "$@" >"$room/table" && sed '$d' "$room/table" && cat "$room/row" && tail -n 1 "$room/table"
+}
+
 find_tools
 find_library
 if [ -n "$emulator" ]; then
@@ -80,5 +117,6 @@ for shift in 0 16 32 48; do
     ${emulator:+"$emulator"} "$program" "${1-50}" "${2-11}" >"$room/at_$shift" || missing "the bench failed" "its lines above say why"
     tables+=("$room/at_$shift")
 done
-print_from together "${tables[@]}"
+night_row "${2-11}" >"$room/row"
+print_from with_night "${tables[@]}"
 finish 0

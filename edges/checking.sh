@@ -89,7 +89,7 @@ prepare() {
     printf '%s\n' 'again:' '  Const 1 r1' '  Bnz r1, again - .' >"$room/loop.kl"
     printf '%s\n' '  Halt' >"$room/halt.kl"
     printf '%s\n' '  Jump' >"$room/bad.kl"
-    for name in card_asm card_dis card_export card_import card_run card_check; do find_program "$name"; done
+    for name in card_asm card_dis card_export card_import card_run card_check card_sheet; do find_program "$name"; done
     for name in eleven loop halt; do "$card" asm "$room/$name.kl" >/dev/null; done
     chmod -R go+rX "$room"
 }

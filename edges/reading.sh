@@ -68,7 +68,7 @@ ended_while_reading() {
 
 read_checks() {
     local command
-    for command in run check asm dis export import; do
+    for command in run check sheet asm dis export import; do
         check closed_input "$command" -- "$command: standard input is closed"
         check directory_read "$command" -- "$command: a directory, by name and on standard input"
         check no_file "$command" -- "$command: a file that is not there"

@@ -7,7 +7,7 @@ root=$(cd "$(dirname "${BASH_SOURCE[0]}")/.." && pwd)
 me=edges
 # shellcheck source=bench/tools.sh
 . "$root/bench/tools.sh"
-for part in checking reading writing exporting importing building saying hosts; do
+for part in checking reading writing exporting importing sheets building saying hosts; do
     # shellcheck source=/dev/null
     . "$root/edges/$part.sh"
 done
@@ -25,6 +25,7 @@ write_checks
 export_checks
 import_checks
 program_checks
+sheet_checks
 building_checks
 saying_checks
 host_checks

@@ -59,7 +59,7 @@ full_check() { # COMMAND
 
 saying_checks() {
     local command page
-    for command in run check asm dis export import test edits bench compare interop claims figures version help edges; do
+    for command in run check sheet asm dis export import test edits bench compare interop claims figures version help edges; do
         check helps "$command" -h -- "$command -h prints help"
         check refuses_words "$command" --no-such-word -- "$command refuses a word that it does not know"
     done

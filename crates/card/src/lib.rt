@@ -10,7 +10,8 @@ use streams::Moved;
 // The status of a check that found nothing wrong.
 const CHECKED: u32 = 0;
 
-fn say(sentence: &[u8]) {
+// What is said is for people.
+pub fn say(sentence: &[u8]) {
     streams::write_all(STDERR_FILENO, sentence);
 }
 
@@ -46,7 +47,7 @@ fn write_line(fd: i32, before: &[u8], number: u32, after: &[u8]) -> bool {
 }
 
 // Says the status, as the last line on standard error: a program has no other way to tell it.
-fn tell(status: u32) {
+pub fn tell(status: u32) {
     write_line(STDERR_FILENO, b"status ", status, b"\n");
 }
 

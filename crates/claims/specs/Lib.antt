@@ -18,5 +18,6 @@ pub mod CodeImport
 pub mod CodeCounts
 pub mod CodePrinted
 pub mod Rows
+pub mod CodeSheets
 pub mod Checking
 pub mod Once

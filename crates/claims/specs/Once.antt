@@ -7,3 +7,4 @@ pub mod Sources
 pub mod Exports
 pub mod Imports
 pub mod Printed
+pub mod Sheets

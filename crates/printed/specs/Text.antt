@@ -29,10 +29,13 @@ pub record Line : Type 0 where
   pub widest : ℕ
 
 -- "answer 16 steps 3 pc 3 prev 0 jumped 0 next 4 widest 1"; "`jumped` is 1 or 0"
-unfoldable pub firstLine : Line → List ℕ
-firstLine l =
+unfoldable pub firstFields : Line → List ℕ
+firstFields l =
     field (bytes "answer ") (l .answer) ++ field (bytes " steps ") (l .steps) ++ field (bytes " pc ") (l .pc) ++ field (bytes " prev ") (l .prev)
-    ++ field (bytes " jumped ") (bit (l .jumped)) ++ field (bytes " next ") (l .next) ++ field (bytes " widest ") (l .widest) ++ lineEnd
+    ++ field (bytes " jumped ") (bit (l .jumped)) ++ field (bytes " next ") (l .next) ++ field (bytes " widest ") (l .widest)
+
+unfoldable pub firstLine : Line → List ℕ
+firstLine l = firstFields l ++ lineEnd
 
 -- a compartment's line: "number, addresses owned, addresses in J, addresses in S"
 pub record Row : Type 0 where

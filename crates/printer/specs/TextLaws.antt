@@ -6,11 +6,9 @@ use mathlib.Core.List.{List, [], _∷_, _++_}
 use Prim.Native.Nat.{ℕ, zero, suc, _+_, _*_, _<_, _≤_}
 use native.Mathlib.Omega.{arith}
 use borrow.Author.Tests.{eq-eqb, ne-eqb, le-leb, lt-leb}
-use lib.ListN.{length, take, replicate, length-append, length-replicate}
-use lib.Seq.{sets, length-take-le}
+use lib.ListN.{length, take, replicate, length-append}
 use Rattle.numerals.specs.Writing.{Put, put}
-use Rattle.text.specs.Puts.{putOf, put-behind, put-whole, put-length}
-use Rattle.text.specs.Stores.{front}
+use Rattle.text.specs.Puts.{putOf, put-behind, put-whole}
 use Rattle.images.specs.Stores.{sets-over}
 use Rattle.rules.specs.Images as images
 use Rattle.rules.specs.Run as rules
@@ -31,6 +29,7 @@ use Rattle.printed.specs.Outcome.{budget, memories, lineOf, rowOf, rowsFrom, ra
 use Rattle.printed.specs.Theorems.Lengths.{longest}
 use Rattle.printed.specs.Theorems.Numbers.{next-most}
 use Rattle.printer.specs.Views.{line, linesOf, ranBy, Meant, meantOf}
+use Rattle.printer.specs.Made as own
 
 -- ---- a run's text
 
@@ -141,36 +140,31 @@ module _ (strict : Bool) (input : List ℕ) (l : Loaded) (words owners jumpers w
 module _ (strict : Bool) (input : List ℕ) (ended n : ℕ) (made : List ℕ)
     (makes : record { status = ended; made = putOf n made } ≡ meantOf (outcome strict input) (replicate longest 0))
     (short : length (text (outcome strict input)) ≤ longest) where
-  whole : (n ≡ 0 + length (text (outcome strict input))) × (made ≡ sets (replicate longest 0) 0 (text (outcome strict input)))
-  whole =
-      let l = length-replicate {A = ℕ} longest 0 in
-      put-whole (text (outcome strict input)) (replicate longest 0) 0 (omega arith) n made (ap (λ (x : Meant). x .made) makes)
+  puts : putOf n made ≡ put (text (outcome strict input)) 0 (replicate longest 0)
+  puts = ap (λ (x : Meant). x .made) makes
+
+  len : n ≡ length (text (outcome strict input))
+  len = own.made-whole (text (outcome strict input)) longest n made puts short
 
   pub made-length : n ≤ length made
-  made-length =
-      let l = length-replicate {A = ℕ} longest 0 in
-      let k = put-length (text (outcome strict input)) (replicate longest 0) 0 n made (ap (λ (x : Meant). x .made) makes) in
-      let w = whole .0 in
-      omega arith
+  made-length = own.made-length (text (outcome strict input)) longest n made puts short
 
   pub made-count : n ≡ length (take n made)
-  made-count = sym (length-take-le n made made-length)
+  made-count = own.made-count (text (outcome strict input)) longest n made puts short
 
   status-is : ended ≡ status (outcome strict input)
   status-is = ap (λ (x : Meant). x .status) makes
 
   pub no-room : (out : List ℕ) → length out < n → record { answer = 31; length = 0; status = ended; out = out } ≡ print strict input out
   unfolding print printedIn
-  no-room out h = let w = whole .0 in simp (lt-leb (length (text (outcome strict input))) (length out) (omega arith), status-is)
+  no-room out h = let w = len in simp (lt-leb (length (text (outcome strict input))) (length out) (omega arith), status-is)
 
   pub has-room : (out : List ℕ) → n ≤ length out → (r : ℕ) (new : List ℕ) → putOf r new ≡ put (take n made) 0 out
       → record { answer = 0; length = n; status = ended; out = new } ≡ print strict input out
   unfolding print printedIn
   has-room out h r new e =
-      let l = length-replicate {A = ℕ} longest 0 in
-      let w : n ≡ 0 + length (text (outcome strict input)) = whole .0 in
-      let len : n ≡ length (text (outcome strict input)) = omega arith in
-      let t : take n made ≡ text (outcome strict input) = front (text (outcome strict input)) (replicate longest 0) made n len (omega arith) (whole .1) in
+      let w = len in
+      let t = own.made-text (text (outcome strict input)) longest n made puts short in
       let p = put-whole (text (outcome strict input)) out 0 (omega arith) r new (e ∙ ap (λ (x : List ℕ). put x 0 out) t) in
       simp (
         le-leb (length (text (outcome strict input))) (length out) (omega arith),

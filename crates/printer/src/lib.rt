@@ -1,5 +1,5 @@
 // Runs an image and makes the text that the run program prints, in a lent buffer.
-mod lines;
+pub mod lines;
 
 ghost use mathlib.Core.Path.{_≡_};
 ghost use Prim.Native.Nat.{_+_, _*_, _≤_};
@@ -18,9 +18,9 @@ use rows::ROWS;
 use rows::Row;
 
 // How many steps an image may take, and how many places its memories have.
-const BUDGET: u32 = 100000;
+pub const BUDGET: u32 = 100000;
 
-const PLACES: usize = 2048;
+pub const PLACES: usize = 2048;
 
 // No text is longer: 108 bytes of a first line, and 44 of each of 64 compartments.
 pub const LONGEST: usize = 2924;

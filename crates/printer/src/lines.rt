@@ -6,13 +6,13 @@ ghost use Rattle.common.specs.Instructions.{bit};
 ghost use Rattle.numerals.specs.Writing.{put};
 ghost use Rattle.text.specs.Puts.{putOf};
 ghost use Rattle.rows.specs.Views.{table};
-ghost use Rattle.printed.specs.Text.{field, refusedLine, firstLine, rowLine, rowLines};
+ghost use Rattle.printed.specs.Text.{field, refusedLine, firstFields, firstLine, rowLine, rowLines};
 ghost use Rattle.printer.specs.Views.{line, row, linesOf};
 use rows::Row;
 use rows::row_at;
 
 // A name and a number.
-fn put_field(out: &mut [u8], at: usize, name: &[u8], value: u32) -> usize
+pub fn put_field(out: &mut [u8], at: usize, name: &[u8], value: u32) -> usize
     ensures { λ r. ⌜ putOf r (now (out .exit)) ≡ put (field (now (name .entry)) value) at (now (out .entry)) ⌝ }
 {
     let p = text::put_text(out, at, name);
@@ -20,7 +20,7 @@ fn put_field(out: &mut [u8], at: usize, name: &[u8], value: u32) -> usize
 }
 
 // `refused R`, at the front.
-pub(crate) fn put_refused(out: &mut [u8], answer: u32) -> usize
+pub fn put_refused(out: &mut [u8], answer: u32) -> usize
     ensures { λ r. ⌜ putOf r (now (out .exit)) ≡ put (refusedLine answer) 0 (now (out .entry)) ⌝ }
     ensures { λ _. ⌜ length (refusedLine answer) ≤ 19 ⌝ }
 {
@@ -37,6 +37,30 @@ fn one_or_zero(flag: bool) -> u32
     0
 }
 
+// The fields of the first line, at the front.
+pub fn put_fields(
+    out: &mut [u8],
+    answer: u32,
+    steps: u32,
+    pc: u32,
+    prev: u32,
+    jumped: bool,
+    next: u32,
+    widest: u32,
+) -> usize
+    ensures { λ n. ⌜ putOf n (now (out .exit)) ≡ put (firstFields (line answer steps pc prev jumped next widest)) 0 (now (out .entry)) ⌝ }
+    ensures { λ _. ⌜ length (firstFields (line answer steps pc prev jumped next widest)) ≤ 107 ⌝ }
+{
+    let flag = one_or_zero(jumped);
+    let p1 = put_field(out, 0, b"answer ", answer);
+    let p2 = put_field(out, p1, b" steps ", steps);
+    let p3 = put_field(out, p2, b" pc ", pc);
+    let p4 = put_field(out, p3, b" prev ", prev);
+    let p5 = put_field(out, p4, b" jumped ", flag);
+    let p6 = put_field(out, p5, b" next ", next);
+    put_field(out, p6, b" widest ", widest)
+}
+
 // The first line, at the front.
 pub(crate) fn put_first(
     out: &mut [u8],
@@ -51,15 +75,8 @@ pub(crate) fn put_first(
     ensures { λ n. ⌜ putOf n (now (out .exit)) ≡ put (firstLine (line answer steps pc prev jumped next widest)) 0 (now (out .entry)) ⌝ }
     ensures { λ _. ⌜ length (firstLine (line answer steps pc prev jumped next widest)) ≤ 108 ⌝ }
 {
-    let flag = one_or_zero(jumped);
-    let p1 = put_field(out, 0, b"answer ", answer);
-    let p2 = put_field(out, p1, b" steps ", steps);
-    let p3 = put_field(out, p2, b" pc ", pc);
-    let p4 = put_field(out, p3, b" prev ", prev);
-    let p5 = put_field(out, p4, b" jumped ", flag);
-    let p6 = put_field(out, p5, b" next ", next);
-    let p7 = put_field(out, p6, b" widest ", widest);
-    text::put_text(out, p7, b"\n")
+    let p = put_fields(out, answer, steps, pc, prev, jumped, next, widest);
+    text::put_text(out, p, b"\n")
 }
 
 // A compartment's line: number, addresses owned, addresses in J, addresses in S.

@@ -43,5 +43,5 @@ pub record Sheet : Type 0 where
   pub nothing : prints [] ≡ line (bytes "refused 20")
 
 pub sheet : Sheet
-unfolding countFrom addressCount ownedCount jumpCount storeCount writerCount mostBelow widest sizeBelow row allowed decode arithmetic branch pcAfter regsAfter wordsAfter jumps serviceCount isService serviceAt isServiceNumber pairsAt setAt inside ordered goodSet isEmpty inSet allFrom within member insert upTo serviceNumbers mainAlone firstNumber inMemory hasOwner ownerAt jumpersAt writersAt readersAt owns mayJump mayStore mayRead reads checks.lengthsDiffer checks.badForm checks.noPlace checks.wrongOwner checks.noArrival checks.instructionAt checks.noInstruction checks.strayBit checks.loadOutside checks.loadForbidden checks.storeOutside checks.storeForbidden checks.halts checks.goodSets checks.badSets checks.emptySet checks.setsWithin checks.notWithin checks.notOwned checks.returns checks.noReturn checks.noNumber checks.checks checks.verdict step.ranInstruction step.mapFrom step.owned step.joined step.joinedServices step.isolated step.jumpAdded step.storeAdded step.readAdded step.ranService step.commit step.step run field fields firstOf entryChecks lastZero registerChecks imageChecks loadChecks blank loaded notLoaded loadVerdict load allBytes section listed imageBytes decimal widthBy text.field text.firstLine text.rowLine text.rowLines text.text outcome.lineOf outcome.rowOf outcome.rowsFrom outcome.ranOutcome outcome.loadOutcome outcome.outcome text.refusedLine
+unfolding countFrom addressCount ownedCount jumpCount storeCount writerCount mostBelow widest sizeBelow row allowed decode arithmetic branch pcAfter regsAfter wordsAfter jumps serviceCount isService serviceAt isServiceNumber pairsAt setAt inside ordered goodSet isEmpty inSet allFrom within member insert upTo serviceNumbers mainAlone firstNumber inMemory hasOwner ownerAt jumpersAt writersAt readersAt owns mayJump mayStore mayRead reads checks.lengthsDiffer checks.badForm checks.noPlace checks.wrongOwner checks.noArrival checks.instructionAt checks.noInstruction checks.strayBit checks.loadOutside checks.loadForbidden checks.storeOutside checks.storeForbidden checks.halts checks.goodSets checks.badSets checks.emptySet checks.setsWithin checks.notWithin checks.notOwned checks.returns checks.noReturn checks.noNumber checks.checks checks.verdict step.ranInstruction step.mapFrom step.owned step.joined step.joinedServices step.isolated step.jumpAdded step.storeAdded step.readAdded step.ranService step.commit step.step run field fields firstOf entryChecks lastZero registerChecks imageChecks loadChecks blank loaded notLoaded loadVerdict load allBytes section listed imageBytes decimal widthBy text.field text.firstFields text.firstLine text.rowLine text.rowLines text.text outcome.lineOf outcome.rowOf outcome.rowsFrom outcome.ranOutcome outcome.loadOutcome outcome.outcome text.refusedLine
 sheet = record { one = refl; two = refl; nothing = refl }

@@ -54,7 +54,7 @@ answer-most (suc k) s = go (eqb (step s .answer) answer.done) refl (answer-most 
     go true e ih = simp e ih
     go false e ih = let v = verdict-most s in let a = answer-is s in let l : step s .answer < 32 = omega arith in simp e l
 
-load-most : (strict : Bool) (input : List ℕ) (old : State) → images.loadVerdict strict input old < 32
+pub load-most : (strict : Bool) (input : List ℕ) (old : State) → images.loadVerdict strict input old < 32
 load-most strict input old = ltb-true (images.loadVerdict strict input old) 32 test
   where
     test : ltb (images.loadVerdict strict input old) 32 ≡ true
@@ -109,7 +109,7 @@ module _ (strict : Bool) (input : List ℕ) (byte : (i : ℕ) → i < length inp
     abbrev left : Ran
     left = run budget (images.load strict input memories .state)
 
-    line-small : SmallLine (lineOf left)
+    pub line-small : SmallLine (lineOf left)
     unfolding lineOf widest
     line-small =
         let a = answer-most budget (images.load strict input memories .state) in

@@ -8,7 +8,7 @@ use Rattle.common.specs.Instructions.{bit}
 use Rattle.numerals.specs.Bytes.{bytes}
 use Rattle.numerals.specs.Numerals.{decimal}
 use Rattle.numerals.specs.Laws.Widths.{width-most, length-decimal}
-use Rattle.printed.specs.Text.{field, refusedLine, Line, firstLine, Row, rowLine}
+use Rattle.printed.specs.Text.{field, lineEnd, refusedLine, Line, firstFields, firstLine, Row, rowLine}
 
 -- 108 bytes of a first line, and 44 of each of 64 compartments
 abbrev pub longest : ℕ
@@ -18,7 +18,7 @@ longest = 2924
 abbrev pub Word : ℕ → Type 0
 Word n = n < 4294967296
 
-field-most : (name : List ℕ) (n : ℕ) → Word n → length (field name n) ≤ length name + 10
+pub field-most : (name : List ℕ) (n : ℕ) → Word n → length (field name n) ≤ length name + 10
 unfolding field
 field-most name n h = let d = length-decimal n in let w = width-most 9 n (omega arith) in let l = length-append name (decimal n) in omega arith
 
@@ -42,9 +42,9 @@ pub record SmallLine (l : Line) : Type 0 where
   pub next : Word (l .next)
   pub widest : Word (l .widest)
 
-pub first-most : (l : Line) → SmallLine l → length (firstLine l) ≤ 108
-unfolding firstLine
-first-most l s =
+pub fields-most : (l : Line) → SmallLine l → length (firstFields l) ≤ 107
+unfolding firstFields
+fields-most l s =
     let a = field-most (bytes "answer ") (l .answer) (s .answer) in
     let b = field-most (bytes " steps ") (l .steps) (s .steps) in
     let c = field-most (bytes " pc ") (l .pc) (s .pc) in
@@ -53,6 +53,13 @@ first-most l s =
     let f = field-most (bytes " next ") (l .next) (s .next) in
     let g = field-most (bytes " widest ") (l .widest) (s .widest) in
     simp length-append (omega arith)
+
+pub with-end : (l : Line) → length (firstFields l) ≤ 107 → length (firstLine l) ≤ 108
+unfolding firstLine
+with-end l h = let e = length-append (firstFields l) lineEnd in omega arith
+
+pub first-most : (l : Line) → SmallLine l → length (firstLine l) ≤ 108
+first-most l s = with-end l (fields-most l s)
 
 pub record SmallRow (x : Row) : Type 0 where
   pub number : Word (x .number)

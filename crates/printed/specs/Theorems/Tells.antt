@@ -9,7 +9,7 @@ use Rattle.common.specs.Instructions.{bit}
 use Rattle.numerals.specs.Bytes.{bytes, feed}
 use Rattle.numerals.specs.Numerals.{decimal}
 use Rattle.numerals.specs.Laws.Tells.{Stops, number-then}
-use Rattle.printed.specs.Text.{field, lineEnd, refusedLine, Line, firstLine, Row, rowLine, rowLines, Outcome, refused, ran, text}
+use Rattle.printed.specs.Text.{field, lineEnd, refusedLine, Line, firstFields, firstLine, Row, rowLine, rowLines, Outcome, refused, ran, text}
 
 -- a field's number is told, and the text behind it
 field-then : (name : List ℕ) (m n : ℕ) (r s : List ℕ) → Stops r → Stops s → field name m ++ r ≡ field name n ++ s → (m ≡ n) × (r ≡ s)
@@ -30,26 +30,35 @@ pub refused-tells : (a b : ℕ) → refusedLine a ≡ refusedLine b → a ≡ b
 unfolding refusedLine
 refused-tells a b e = field-then (bytes "refused ") a b lineEnd lineEnd refl refl e .0
 
--- the first line as its fields, each before the rest
+-- the first line's fields, each before the rest
 unfolded : (l : Line) (r : List ℕ)
-    → firstLine l ++ r
+    → firstFields l ++ r
     ≡ field (bytes "answer ") (l .answer) ++ (field (bytes " steps ") (l .steps) ++ (field (bytes " pc ") (l .pc) ++ (field (bytes " prev ") (l .prev)
-    ++ (field (bytes " jumped ") (bit (l .jumped)) ++ (field (bytes " next ") (l .next) ++ (field (bytes " widest ") (l .widest) ++ feed ∷ r))))))
-unfolding firstLine
+    ++ (field (bytes " jumped ") (bit (l .jumped)) ++ (field (bytes " next ") (l .next) ++ (field (bytes " widest ") (l .widest) ++ r))))))
+unfolding firstFields
 unfolded l r = simp append-assoc
 
-pub first-then : (l m : Line) (r s : List ℕ) → firstLine l ++ r ≡ firstLine m ++ s → (l ≡ m) × (r ≡ s)
+-- the fields tell their numbers, whatever is behind them that begins with no digit
+pub fields-then : (l m : Line) (r s : List ℕ) → Stops r → Stops s → firstFields l ++ r ≡ firstFields m ++ s → (l ≡ m) × (r ≡ s)
 unfolding field
-first-then l m r s e =
+fields-then l m r s p q e =
     let a = field-then (bytes "answer ") (l .answer) (m .answer) _ _ refl refl (sym (unfolded l r) ∙ e ∙ unfolded m s) in
     let b = field-then (bytes " steps ") (l .steps) (m .steps) _ _ refl refl (a .1) in
     let c = field-then (bytes " pc ") (l .pc) (m .pc) _ _ refl refl (b .1) in
     let d = field-then (bytes " prev ") (l .prev) (m .prev) _ _ refl refl (c .1) in
     let f = field-then (bytes " jumped ") (bit (l .jumped)) (bit (m .jumped)) _ _ refl refl (d .1) in
     let g = field-then (bytes " next ") (l .next) (m .next) _ _ refl refl (f .1) in
-    let h = field-then (bytes " widest ") (l .widest) (m .widest) (feed ∷ r) (feed ∷ s) refl refl (g .1) in
+    let h = field-then (bytes " widest ") (l .widest) (m .widest) r s p q (g .1) in
     let j = bit-tells (l .jumped) (m .jumped) (f .0) in
-    (λ i. record { answer = a .0 i; steps = b .0 i; pc = c .0 i; prev = d .0 i; jumped = j i; next = g .0 i; widest = h .0 i }, tail-eq-of-cons-eq (h .1))
+    (λ i. record { answer = a .0 i; steps = b .0 i; pc = c .0 i; prev = d .0 i; jumped = j i; next = g .0 i; widest = h .0 i }, h .1)
+
+line-then : (l : Line) (r : List ℕ) → firstLine l ++ r ≡ firstFields l ++ feed ∷ r
+unfolding firstLine
+line-then l r = append-assoc (firstFields l) lineEnd r
+
+pub first-then : (l m : Line) (r s : List ℕ) → firstLine l ++ r ≡ firstLine m ++ s → (l ≡ m) × (r ≡ s)
+first-then l m r s e =
+    let t = fields-then l m (feed ∷ r) (feed ∷ s) refl refl (sym (line-then l r) ∙ e ∙ line-then m s) in (t .0, tail-eq-of-cons-eq (t .1))
 
 row-unfolded : (x : Row) (r : List ℕ)
     → rowLine x ++ r ≡ field [] (x .number) ++ (field (bytes " ") (x .owned) ++ (field (bytes " ") (x .jumps) ++ (field (bytes " ") (x .stores) ++ feed ∷ r)))
@@ -79,13 +88,13 @@ rows-tell (x ∷ xs) (y ∷ ys) e = let t = row-then x y (rowLines xs) (rowLines
 -- ---- the whole text
 
 -- "r" is not "a"
-differs : (a : ℕ) (l : Line) (r : List ℕ) → refusedLine a ≡ firstLine l ++ r → ⊥
+pub differs : (a : ℕ) (l : Line) (r : List ℕ) → refusedLine a ≡ firstFields l ++ r → ⊥
 unfolding refusedLine field
 differs a l r e = let h : _≡_ {A = ℕ} 114 97 = head-eq-of-cons-eq (e ∙ unfolded l r) in absurd (omega arith)
 
 pub text-tells : (o p : Outcome) → text o ≡ text p → o ≡ p
 unfolding text
 text-tells (refused a) (refused b) e = ap refused (refused-tells a b e)
-text-tells (refused a) (ran l rows) e = absurd (differs a l (rowLines rows) e)
-text-tells (ran l rows) (refused b) e = absurd (differs b l (rowLines rows) (sym e))
+text-tells (refused a) (ran l rows) e = absurd (differs a l _ (e ∙ line-then l (rowLines rows)))
+text-tells (ran l rows) (refused b) e = absurd (differs b l _ (sym e ∙ line-then l (rowLines rows)))
 text-tells (ran l rows) (ran m more) e = let t = first-then l m (rowLines rows) (rowLines more) e in let rest = rows-tell rows more (t .1) in λ i. ran (t .0 i) (rest i)

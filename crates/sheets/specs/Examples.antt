@@ -1,0 +1,2 @@
+-- The folder Examples: a night of three.
+pub mod Night

@@ -1,0 +1,2 @@
+-- The folder Laws: lines and totals as the code comes to them.
+pub mod Counting
