@@ -24,7 +24,7 @@ use Rattle.monitor.specs.Outcomes.{called, isolating, Adding, adding}
 use Rattle.service.specs.Served.{isolatedBy, addedBy, grown, Serving, callOf, addOf, isolates, adds-jump, adds-store, adds-read, serving}
 
 -- whether a call arrives: the flag is set, and the caller is in the service's set
-abbrev arrivesBy : Processor → ℕ → Bool
+abbrev pub arrivesBy : Processor → ℕ → Bool
 arrivesBy p gate = p .jumped && member gate (p .prev)
 
 module _ (s : State) (f : formed s ≡ true) (h : s .cpu .n ≤ s .cpu .pc) where
@@ -54,7 +54,7 @@ module _ (s : State) (f : formed s ≡ true) (h : s .cpu .n ≤ s .cpu .pc) wher
             let z : false ≡ true = simp (p, k) at seat in
             clash z refl
 
-    arrives-is : arrives s ≡ arrivesBy (s .cpu) gate
+    pub arrives-is : arrives s ≡ arrivesBy (s .cpu) gate
     unfolding arrives ownerAt mayJump jumpersAt
     arrives-is = simp (not-inside, k, not-own, g)
 

@@ -1,0 +1,1 @@
+-- Answers and what is told of them, by computation.
