@@ -85,15 +85,15 @@ setBy s r = setAt (s .words) (pointer s r)
 abbrev pub extent : State → ℕ → ℕ
 extent s r = suc (2 * wordAt s (pointer s r))
 
-unfoldable pub setFault : State → ℕ → ℕ
-setFault s r = cond (inside (s .words) (s .cpu .n) (pointer s r)) (cond (ordered (setBy s r)) unreadable disordered) outside
+unfoldable pub setFault : List ℕ → ℕ → ℕ → ℕ
+setFault words n q = cond (inside words n q) (cond (ordered (setAt words q)) unreadable disordered) outside
 
--- its first word that is outside memory, begins a pair with first >= past, or may not be read
-unfoldable pub faultAt : State → ℕ → ℕ → ℕ
-faultAt s c r =
-    cond (inside (s .words) (s .cpu .n) (pointer s r))
-    (cond (ordered (setBy s r)) (firstNot (reads s c) (pointer s r) (extent s r)) (pointer s r + 1 + 2 * firstDisordered (setBy s r)))
-    (max (pointer s r) (s .cpu .n))
+-- of the set at q its first word that is outside memory, begins a pair with first >= past, or may not be read
+unfoldable pub faultAt : List ℕ → ℕ → (ℕ → Bool) → ℕ → ℕ
+faultAt words n reads q =
+    cond (inside words n q)
+    (cond (ordered (setAt words q)) (firstNot reads q (suc (2 * getD words q 0))) (q + 1 + 2 * firstDisordered (setAt words q)))
+    (max q n)
 
 unfoldable pub badSet : State → ℕ
 badSet s = firstSet (goodIn s (s .cpu .prev))
@@ -158,7 +158,9 @@ abbrev pub aboutTarget : State → ℕ → Why
 aboutTarget s a = told a 0 0 (named s) (owner s (named s)) 0 0
 
 abbrev pub aboutSet : State → ℕ → Why
-aboutSet s r = told answer.bad-set r (setFault s r) (faultAt s (s .cpu .prev) r) 0 (wordAt s (faultAt s (s .cpu .prev) r)) 0
+aboutSet s r =
+    let x = faultAt (s .words) (s .cpu .n) (reads s (s .cpu .prev)) (pointer s r) in
+    told answer.bad-set r (setFault (s .words) (s .cpu .n) (pointer s r)) x 0 (wordAt s x) 0
 
 abbrev pub aboutGift : State → ℕ → Why
 aboutGift s r = told answer.not-within r 0 (outAt s (s .cpu .prev) r) (ownerOr s (outAt s (s .cpu .prev) r)) 0 0

@@ -48,12 +48,15 @@ module _ (s : State) (r : ℕ) where
 one-set : (s : State) (w : Why) (test : ℕ → Bool) → Failing (s .cpu .strict) test (w .set) → OneSet s w test
 one-set s w test f = record { first = f .first; last = f .last; fourth = f .fourth; before = f .before }
 
-pub bad-set : (s : State) → badSets s ≡ true → BadSet s (aboutSet s (badSet s))
+pub bad-set-fails : (s : State) → badSets s ≡ true → Failing (s .cpu .strict) (goodIn s (s .cpu .prev)) (badSet s)
 unfolding badSets goodSets badSet
+bad-set-fails s h = set-fails (s .cpu .strict) (goodIn s (s .cpu .prev)) (not-true _ (both (eqb (s .cpu .pc) isolate) (not (goodSets s (s .cpu .prev))) h .1))
+
+pub bad-set : (s : State) → badSets s ≡ true → BadSet s (aboutSet s (badSet s))
+unfolding badSets
 bad-set s h =
-    let t = both (eqb (s .cpu .pc) isolate) (not (goodSets s (s .cpu .prev))) h in
-    let f = set-fails (s .cpu .strict) (goodIn s (s .cpu .prev)) (not-true _ (t .1)) in
-    record { called = eqb-true _ _ (t .0); one = one-set s _ _ f; word = bad-word s _ (f .fails); value = refl }
+    let f = bad-set-fails s h in
+    record { called = eqb-true _ _ (both (eqb (s .cpu .pc) isolate) (not (goodSets s (s .cpu .prev))) h .0); one = one-set s _ _ f; word = bad-word s _ (f .fails); value = refl }
 
 -- ---- 10
 
@@ -63,11 +66,21 @@ module _ (s : State) (c : ℕ) where
   unfolding setsWithin mayGive
   sets-are = simp (fun-ext (λ (x : ℕ). or-false (owns s c x)), within-if (s .cpu .strict) (setBy s 4) (λ x. owns s c x || mayRead s c x))
 
+pub wide-set-fails : (s : State) → notWithin s ≡ true → Failing (s .cpu .strict) (λ r. within (setBy s r) (mayGive s (s .cpu .prev) r)) (wideSet s)
+unfolding notWithin wideSet
+wide-set-fails s h =
+    set-fails (s .cpu .strict) (λ r. within (setBy s r) (mayGive s (s .cpu .prev) r))
+    (sym (sets-are s (s .cpu .prev)) ∙ not-true _ (both (eqb (s .cpu .pc) isolate) (not (setsWithin s (s .cpu .prev))) h .1))
+
 pub not-within : (s : State) → notWithin s ≡ true → OutOfReach s (aboutGift s (wideSet s))
-unfolding notWithin wideSet outAt
+unfolding notWithin outAt
 not-within s h =
-    let c = s .cpu .prev in
-    let t = both (eqb (s .cpu .pc) isolate) (not (setsWithin s (s .cpu .prev))) h in
-    let f = set-fails (s .cpu .strict) (λ r. within (setBy s r) (mayGive s (s .cpu .prev) r)) (sym (sets-are s (s .cpu .prev)) ∙ not-true _ (t .1)) in
+    let f = wide-set-fails s h in
     let o = out-fails (mayGive s (s .cpu .prev) (wideSet s)) (setBy s (wideSet s)) (f .fails) in
-    record { called = eqb-true _ _ (t .0); one = one-set s _ _ f; named = o .0; not-given = o .1; whose = refl }
+    record {
+      called = eqb-true _ _ (both (eqb (s .cpu .pc) isolate) (not (setsWithin s (s .cpu .prev))) h .0);
+      one = one-set s _ _ f;
+      named = o .0;
+      not-given = o .1;
+      whose = refl;
+    }
