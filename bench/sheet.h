@@ -41,4 +41,9 @@ uint32_t sheet_stores(const kl_processor *cpu, const uint64_t *writers, size_t w
 uint32_t sheet_widest(const kl_processor *cpu, const uint32_t *owners, size_t owners_len, const uint64_t *writers,
                       size_t writers_len);
 
+/* ---- sheet_why.c: of a step's answer, which it is given ---- */
+uint32_t sheet_why(const kl_processor *cpu, const uint32_t *words, size_t words_len, const uint32_t *owners, size_t owners_len,
+                   const uint64_t *jumpers, size_t jumpers_len, const uint64_t *writers, size_t writers_len,
+                   const uint64_t *readers, size_t readers_len, uint32_t answer, kl_reason *told);
+
 #endif

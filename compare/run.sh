@@ -31,7 +31,8 @@ find_tools
 find_library
 build host "$root/examples/host.c"
 try_example
-build compare "$root"/compare/*.c "$root/bench/sheet.c" "$root/bench/sheet_images.c" "$root/bench/sheet_counts.c"
+build compare "$root"/compare/*.c "$root/bench/sheet.c" "$root/bench/sheet_images.c" "$root/bench/sheet_counts.c" \
+    "$root/bench/sheet_why.c"
 ended=0
 print_from ${emulator:+"$emulator"} "$program" "$@" || ended=$?
 [ "$ended" -le 1 ] || missing "the host test ended with $ended" "its line above, if any, says why"
