@@ -14,6 +14,7 @@ pub mod CodeSteps
 pub mod CodeAgreement
 pub mod CodeSources
 pub mod CodeCounts
+pub mod CodeWhy
 pub mod CodePrinted
 pub mod Checking
 pub mod Once
