@@ -62,7 +62,7 @@ bad-set s h =
 
 module _ (s : State) (c : ℕ) where
   -- by the sets' numbers, what the check asks
-  sets-are : setsWithin s c ≡ (within (setBy s 1) (mayGive s c 1) && within (setBy s 2) (mayGive s c 2) && within (setBy s 3) (mayGive s c 3) && (not (s .cpu .strict) || within (setBy s 4) (mayGive s c 4)))
+  pub sets-are : setsWithin s c ≡ (within (setBy s 1) (mayGive s c 1) && within (setBy s 2) (mayGive s c 2) && within (setBy s 3) (mayGive s c 3) && (not (s .cpu .strict) || within (setBy s 4) (mayGive s c 4)))
   unfolding setsWithin mayGive
   sets-are = simp (fun-ext (λ (x : ℕ). or-false (owns s c x)), within-if (s .cpu .strict) (setBy s 4) (λ x. owns s c x || mayRead s c x))
 

@@ -75,7 +75,7 @@ stray-shows word wrong = go (ltb (opOf word) is.count) (leb (aOf word) (row (opO
         })))
 
 -- the first unused number after loading, in the words of 14
-first-is : (m : Bool) → cond m 5 4 ≡ firstNumber m
+pub first-is : (m : Bool) → cond m 5 4 ≡ firstNumber m
 unfolding firstNumber serviceCount
 first-is true = refl
 first-is false = refl
