@@ -48,4 +48,9 @@ uint32_t sheet_import(const uint8_t *text, size_t text_len, const uint32_t regs[
 /* ---- sheet_export.c ---- */
 uint32_t sheet_export(const uint32_t *words, size_t words_len, uint8_t *out, size_t out_len, size_t *length);
 
+/* ---- sheet_why.c: of a step's answer, which it is given ---- */
+uint32_t sheet_why(const kl_processor *cpu, const uint32_t *words, size_t words_len, const uint32_t *owners, size_t owners_len,
+                   const uint64_t *jumpers, size_t jumpers_len, const uint64_t *writers, size_t writers_len,
+                   const uint64_t *readers, size_t readers_len, uint32_t answer, kl_reason *told);
+
 #endif

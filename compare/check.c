@@ -295,12 +295,32 @@ static uint32_t timed_step(state *ours)
     return answer;
 }
 
+/* What kl_why told of the state before the step, against plain C's witness of the answer. */
+static void compare_reasons(const kl_reason *a, const kl_reason *b)
+{
+    if (memcmp(a, b, sizeof *a) == 0) return;
+    begin_report("kl_why");
+    show("answer", ALONE, a->answer, b->answer);
+    show("set", ALONE, a->set, b->set);
+    show("fault", ALONE, a->fault, b->fault);
+    show("place", ALONE, a->place, b->place);
+    show("owner", ALONE, a->owner, b->owner);
+    show("value", ALONE, a->value, b->value);
+    show("bits", ALONE, a->bits, b->bits);
+    show_state(&before);
+    end_report();
+}
+
 uint32_t check_step(state *ours, state *sheet)
 {
+    kl_reason why, wanted;
     copy_state(&before, sheet);
+    kl_why(&ours->cpu, LENT(ours), &why);
     const told a = {timed_step(ours), 0};
     const told b = {sheet_step(&sheet->cpu, LENT(sheet)), 0};
     settle("kl_step", &before, ours, sheet, a, b, b.answer != 0, b.answer != 0);
+    sheet_why(&before.cpu, LENT(&before), b.answer, &wanted);
+    compare_reasons(&why, &wanted);
     return b.answer;
 }
 

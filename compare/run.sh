@@ -75,7 +75,8 @@ build host "$root/examples/host.c"
 try_example
 try_night
 build compare "$root"/compare/*.c "$root/bench/sheet.c" "$root/bench/sheet_images.c" "$root/bench/sheet_counts.c" \
-    "$root/bench/sheet_export.c" "$root/bench/sheet_import.c"
+    "$root/bench/sheet_export.c" "$root/bench/sheet_import.c" \
+    "$root/bench/sheet_why.c"
 ended=0
 print_from ${emulator:+"$emulator"} "$program" "$@" || ended=$?
 [ "$ended" -le 1 ] || missing "the host test ended with $ended" "its line above, if any, says why"

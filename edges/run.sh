@@ -7,7 +7,7 @@ root=$(cd "$(dirname "${BASH_SOURCE[0]}")/.." && pwd)
 me=edges
 # shellcheck source=bench/tools.sh
 . "$root/bench/tools.sh"
-for part in checking reading writing exporting importing sheets building saying hosts; do
+for part in checking reading writing exporting importing sheets building saying telling hosts; do
     # shellcheck source=/dev/null
     . "$root/edges/$part.sh"
 done
@@ -28,6 +28,7 @@ program_checks
 sheet_checks
 building_checks
 saying_checks
+telling_checks
 host_checks
 printf '%d passed, %d failed, %d skipped\n' "$passed" "$failed" "$skipped"
 [ "$failed" -eq 0 ] || finish 1

@@ -48,8 +48,8 @@ extern "C" {
 #endif
 
 /* Grows by one where a declaration of this header is added or changes: 1 the base, 2 sources, 3 strict mode, 4 kl_check,
-   5 kl_widest is lent the owners, 6 KL_STRAY_BIT beside KL_NO_INSTRUCTION, 7 Intel HEX. */
-#define KL_VERSION 7
+   5 kl_widest is lent the owners, 6 KL_STRAY_BIT beside KL_NO_INSTRUCTION, 7 Intel HEX, 8 kl_why. */
+#define KL_VERSION 8
 
 /* Sizes. */
 enum {
@@ -217,6 +217,37 @@ uint32_t kl_run(kl_processor *cpu,
                 uint32_t *words, size_t words_len, uint32_t *owners, size_t owners_len,
                 uint64_t *jumpers, size_t jumpers_len, uint64_t *writers, size_t writers_len,
                 uint64_t *readers, size_t readers_len, uint32_t budget, uint32_t *count);
+
+/* Why the next step answers its number, in numbers; one that says nothing of an answer is 0. docs/REFERENCE.md has the table. */
+typedef struct kl_reason {
+    uint32_t answer; /* what the step would answer */
+    uint32_t set;    /* 8, 9, 10: which set: 1 A', 2 J', 3 S', 4 R' */
+    uint32_t fault;  /* 8: 1 a word outside memory, 2 first >= past, 3 not readable; 12: 1 not the caller's word, 2 A' takes it;
+                        14: 1 lengths, 2 N, 3 next, 4 prev not below next, 5 prev is a service's number at a service */
+    uint32_t place;  /* the address that the answer is about */
+    uint32_t owner;  /* 4, 7, 10, 11, 12, 15, 17: who owns that address; 64 where it is neither a word nor a service */
+    uint32_t value;  /* 3, 16: the word; 5, 6: N; 8: the word at the place; 13: 64 */
+    uint32_t bits;   /* 3, 16: the bits that are not 0 and that the word's opcode leaves unused */
+} kl_reason;
+
+/* Finds out why the next step would answer its number, and changes nothing: answers that number, and lays the seven numbers of
+   kl_reason into told, in their order. The record comes in its parts; kl_why takes it whole. */
+uint32_t kl_why_of(uint32_t n, const uint32_t regs[16], uint32_t pc, uint32_t prev, bool jumped, bool strict, uint32_t next,
+                   const uint64_t services[4], const uint32_t *words, size_t words_len, const uint32_t *owners, size_t owners_len,
+                   const uint64_t *jumpers, size_t jumpers_len, const uint64_t *writers, size_t writers_len,
+                   const uint64_t *readers, size_t readers_len, uint32_t told[7]);
+
+static inline uint32_t kl_why(const kl_processor *cpu, const uint32_t *words, size_t words_len, const uint32_t *owners,
+                              size_t owners_len, const uint64_t *jumpers, size_t jumpers_len, const uint64_t *writers,
+                              size_t writers_len, const uint64_t *readers, size_t readers_len, kl_reason *told)
+{
+    uint32_t t[7];
+    (void)kl_why_of(cpu->n, cpu->regs, cpu->pc, cpu->prev, cpu->jumped, cpu->strict, cpu->next, cpu->services, words, words_len,
+                    owners, owners_len, jumpers, jumpers_len, writers, writers_len, readers, readers_len, t);
+    told->answer = t[0], told->set = t[1], told->fault = t[2], told->place = t[3];
+    told->owner = t[4], told->value = t[5], told->bits = t[6];
+    return told->answer;
+}
 
 /* Takes an instruction word apart: fields[0] opcode, [1] field a, [2] field b, [3] the low 16 bits, all
    unsigned (a Bnz's offset as its raw 16 bits). Answers 0, or 3 where the opcode is above 13, whatever the

@@ -16,6 +16,7 @@ pub mod CodeSources
 pub mod CodeExport
 pub mod CodeImport
 pub mod CodeCounts
+pub mod CodeWhy
 pub mod CodePrinted
 pub mod Rows
 pub mod CodeSheets

@@ -5,6 +5,7 @@ use Rattle.common.specs.Words as words
 use Rattle.rules.specs.Step as step
 use Rattle.rules.specs.Run as run
 use Rattle.rules.specs.Images as images
+use Rattle.reasons.specs.Why as reasons
 use Rattle.sources.specs.Meaning as sources
 use Rattle.hex.specs.Importing as hex
 use Rattle.machine.specs.Views.{stateOf}
@@ -36,6 +37,18 @@ decodedBy answer fields = record { answer = answer; fields = fields }
 -- the fields in the order in which the host gets them
 abbrev pub laidOut : words.Decoded → DecodeOutcome
 laidOut d = record { answer = d .answer; fields = d .op ∷ d .a ∷ d .b ∷ d .low ∷ [] }
+
+-- all that a reason hands back or may change
+pub record WhyOutcome : Type 0 where
+  pub answer : ℕ
+  pub told : List ℕ
+
+abbrev pub toldBy : ℕ → List ℕ → WhyOutcome
+toldBy answer told = record { answer = answer; told = told }
+
+-- the numbers in the order in which the host gets them
+abbrev pub allTold : reasons.Why → WhyOutcome
+allTold w = record { answer = w .answer; told = w .answer ∷ w .set ∷ w .fault ∷ w .place ∷ w .owner ∷ w .value ∷ w .bits ∷ [] }
 
 abbrev pub encodedBy : ℕ → ℕ → words.Encoded
 encodedBy answer word = record { answer = answer; word = word }

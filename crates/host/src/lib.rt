@@ -3,6 +3,7 @@ ghost use mathlib.Core.Path.{_≡_};
 ghost use mathlib.Core.List.{[]};
 ghost use Rattle.common.specs.Words.{decode, encode};
 ghost use Rattle.rules.specs.Step.{step};
+ghost use Rattle.reasons.specs.Why.{why};
 ghost use Rattle.rules.specs.Run.{run};
 ghost use Rattle.rules.specs.Images.{load, check, write};
 ghost use Rattle.rules.specs.Counts.{ownedCount, jumpCount, storeCount, widest};
@@ -12,7 +13,7 @@ ghost use Rattle.hex.specs.Exporting.{export};
 ghost use Rattle.hex.specs.Importing.{import};
 ghost use Rattle.machine.specs.Views.{stateOf};
 ghost use Rattle.loader.specs.Views.{lent};
-ghost use Rattle.host.specs.Views.{loadedBy, checkedBy, steppedBy, ranBy, decodedBy, laidOut, encodedBy, writtenBy, assembledBy, importedBy};
+ghost use Rattle.host.specs.Views.{loadedBy, checkedBy, steppedBy, ranBy, decodedBy, laidOut, toldBy, allTold, encodedBy, writtenBy, assembledBy, importedBy};
 use machine::Processor;
 
 // Loads an image over whatever the record held, for a run in a mode; a refused load leaves the blank record of that mode.
@@ -79,6 +80,42 @@ pub extern "C" fn kl_run(
     *cpu = r.cpu;
     *count = r.count;
     r.answer
+}
+
+// Why the next step would answer its number: the answer, and in told the seven numbers of it. The record comes in its parts, each lent or
+// by value; nothing of the state changes.
+#[no_mangle]
+pub extern "C" fn kl_why_of(
+    n: u32,
+    regs: &[u32; 16],
+    pc: u32,
+    prev: u32,
+    jumped: bool,
+    strict: bool,
+    next: u32,
+    services: &[u64; 4],
+    words: &[u32],
+    owners: &[u32],
+    jumpers: &[u64],
+    writers: &[u64],
+    readers: &[u64],
+    told: &mut [u32; 7],
+) -> u32
+    ensures { λ r. ⌜ toldBy r (now (told .exit)) ≡ allTold (why (stateOf (record { n = n; regs = now (regs .entry); pc = pc; prev = prev; jumped = jumped; strict = strict; next = next; services = now (services .entry) }) (now (words .entry)) (now (owners .entry)) (now (jumpers .entry)) (now (writers .entry)) (now (readers .entry)))) ⌝ }
+{
+    let cpu = Processor {
+        n,
+        regs: *regs,
+        pc,
+        prev,
+        jumped,
+        strict,
+        next,
+        services: *services,
+    };
+    let w = why::why(cpu, words, owners, jumpers, writers, readers);
+    *told = [w.answer, w.set, w.fault, w.place, w.owner, w.value, w.bits];
+    w.answer
 }
 
 // Takes a word apart: opcode, field a, field b, low 16 bits.

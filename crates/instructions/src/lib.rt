@@ -56,7 +56,7 @@ pub struct Encoded {
 }
 
 // The row of an opcode. Each row is named by its own number: an index that varies would have the table built anew at each call.
-fn used(op: u32) -> u32
+pub fn used(op: u32) -> u32
     ensures { λ r. ⌜ r ≡ usedOf op ⌝ }
 {
     match op {

@@ -28,7 +28,7 @@ pub struct Added {
 }
 
 // The checks of isolate in the sheet's order.
-fn isolate_verdict(
+pub fn isolate_verdict(
     regs: &[u32; 16],
     strict: bool,
     n: u32,

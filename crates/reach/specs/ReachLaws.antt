@@ -63,17 +63,17 @@ module _ (s : State) (c : ℕ) where
       go false true = refl
       go false false = refl
 
-  reaches-own : (x : ℕ) → reaches (seen [] []) c x ≡ owns s c x
+  pub reaches-own : (x : ℕ) → reaches (seen [] []) c x ≡ owns s c x
   reaches-own x =
       reaches-words [] x ∙ ap (λ (set : ℕ). owns s c x || member set c) (cond-same (ltb x (s .cpu .n)) empty)
       ∙ ap (λ (b : Bool). owns s c x || b) (member-empty c)
       ∙ or-false (owns s c x)
 
-  reaches-jump : (x : ℕ) → reaches (seen (s .jumpers) (s .cpu .services)) c x ≡ (owns s c x || mayJump s c x)
+  pub reaches-jump : (x : ℕ) → reaches (seen (s .jumpers) (s .cpu .services)) c x ≡ (owns s c x || mayJump s c x)
   unfolding mayJump jumpersAt inMemory
   reaches-jump x = ap (λ (b : Bool). b || mayJump s c x) (same-owns (seen (s .jumpers) (s .cpu .services)) s c x refl refl refl)
 
-  reaches-store : (x : ℕ) → reaches (seen (s .writers) []) c x ≡ (owns s c x || mayStore s c x)
+  pub reaches-store : (x : ℕ) → reaches (seen (s .writers) []) c x ≡ (owns s c x || mayStore s c x)
   unfolding mayStore writersAt inMemory
   reaches-store x = reaches-words (s .writers) x
 

@@ -1,6 +1,6 @@
 // What a compartment reaches by the tags, and the checks of it: the sets that it may hand over (8), what it may give away (10) and the
 // address to return to (12).
-mod walk;
+pub mod walk;
 
 ghost use mathlib.Core.Path.{_≡_};
 ghost use mathlib.Core.List.{[]};
@@ -32,7 +32,7 @@ pub fn owns(strict: bool, n: u32, caller: u32, owners: &[u32], x: u32) -> bool
 }
 
 // Whether the set at q is inside memory and in order, and in strict mode the caller may read its words, count and pairs.
-fn good(
+pub fn good(
     words: &[u32],
     q: u32,
     strict: bool,

@@ -27,7 +27,7 @@ fn numbers_at(strict: bool, n: u32, sets: &[u64], services: &[u64], x: u32) -> u
 }
 
 // Whether the caller owns x or is in the set at x.
-fn reaches(
+pub fn reaches(
     strict: bool,
     n: u32,
     caller: u32,
@@ -80,7 +80,7 @@ pub(crate) fn reaches_all(
 }
 
 // Whether the caller reaches every address of the set at q.
-pub(crate) fn within(
+pub fn within(
     words: &[u32],
     q: u32,
     strict: bool,

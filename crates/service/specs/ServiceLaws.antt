@@ -54,7 +54,7 @@ module _ (s : State) (f : formed s ≡ true) (h : s .cpu .n ≤ s .cpu .pc) wher
             let z : false ≡ true = simp (p, k) at seat in
             clash z refl
 
-    arrives-is : arrives s ≡ arrivesBy (s .cpu) gate
+    pub arrives-is : arrives s ≡ arrivesBy (s .cpu) gate
     unfolding arrives ownerAt mayJump jumpersAt
     arrives-is = simp (not-inside, k, not-own, g)
 

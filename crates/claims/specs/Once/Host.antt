@@ -9,10 +9,14 @@ use Rattle.sources.specs.Meaning as sources
 use Rattle.hex.specs.Importing as hex
 use Rattle.machine.specs.declared.Processor.{Processor}
 use Rattle.machine.specs.Views.{processorOf}
-use Rattle.host.specs.Views.{DecodeOutcome}
+use Rattle.host.specs.Views.{DecodeOutcome, WhyOutcome}
 use Rattle.host.proofs.kl_check.Reads as kl-check
 use Rattle.host.proofs.kl_decode.Reads as kl-decode
 use Rattle.host.proofs.kl_encode.Reads as kl-encode
+use Rattle.host.proofs.kl_why_of.Reads as kl-why-of
+use Rattle.reasons.specs.Why as reasons
+use Rattle.why.specs.declared.Reason.{Reason}
+use Rattle.why.proofs.why.Reads as why
 use Rattle.host.proofs.kl_write.Reads as kl-write
 use Rattle.host.proofs.kl_assemble.Reads as kl-assemble
 use Rattle.host.proofs.kl_import.Reads as kl-import
@@ -52,6 +56,17 @@ kl-encode-once κs a r q s t = same-by (λ (m : words.Encoded). (m .answer, m .w
 
 pub kl-write-once : Once kl-write.Post {Out = ℕ × ℕ × List ℕ} (λ κs r s. (r, s .1 .1 .1 .1 .0 .now, s .1 .1 .1 .0 .now))
 kl-write-once κs a r q s t = same-by (λ (m : images.Written). (m .answer, m .length, m .out))
+
+-- why; kl_why_of, with the numbers told
+
+pub why-once : Once why.Post (λ κs r s. r)
+why-once κs a r q s t = same-by (λ (m : reasons.Why). reasonOf m)
+  where
+    reasonOf : reasons.Why → Reason
+    reasonOf w = record { answer = w .answer; set = w .set; fault = w .fault; place = w .place; owner = w .owner; value = w .value; bits = w .bits }
+
+pub kl-why-of-once : Once kl-why-of.Post {Out = ℕ × List ℕ} (λ κs r s. (r, s .1 .1 .1 .1 .1 .1 .1 .1 .1 .1 .1 .1 .1 .0 .now))
+kl-why-of-once κs a r q s t = same-by (λ (m : WhyOutcome). (m .answer, m .told))
 
 -- kl_assemble and kl_import, with the line, the length and the buffer; kl_disassemble and kl_export, with the length and the buffer
 

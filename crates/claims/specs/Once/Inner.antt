@@ -27,6 +27,9 @@ use Rattle.reach.proofs.owns.Reads as owns
 use Rattle.reach.proofs.all_good.Reads as all-good
 use Rattle.reach.proofs.all_within.Reads as all-within
 use Rattle.reach.proofs.returns.Reads as returns
+use Rattle.reach.proofs.good.Reads as good
+use Rattle.reach.proofs.walk.reaches.Reads as reaches
+use Rattle.reach.proofs.walk.within.Reads as within
 use Rattle.tags.proofs.own.Reads as own
 use Rattle.tags.proofs.join.Reads as join
 use Rattle.tags.proofs.join_at.Reads as join-at
@@ -105,7 +108,16 @@ has-once κs a r q s t = same
 pub clipped-once : Once clipped.Post (λ κs r s. r)
 clipped-once κs a r q s t = same
 
--- reach: owns, all_good, all_within, returns
+-- reach: owns, good, all_good, reaches, within, all_within, returns
+
+pub good-once : Once good.Post (λ κs r s. r)
+good-once κs a r q s t = same
+
+pub reaches-once : Once reaches.Post (λ κs r s. r)
+reaches-once κs a r q s t = same
+
+pub within-once : Once within.Post (λ κs r s. r)
+within-once κs a r q s t = same
 
 pub owns-once : Once owns.Post (λ κs r s. r)
 owns-once κs a r q s t = same

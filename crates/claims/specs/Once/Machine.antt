@@ -26,11 +26,13 @@ use Rattle.compartments.proofs.Set.contains.Reads as contains
 use Rattle.compartments.proofs.Set.insert.Reads as insert
 use Rattle.compartments.proofs.Set.count.Reads as count
 use Rattle.compartments.proofs.Set.lowest.Reads as lowest
+use Rattle.instructions.proofs.used.Reads as used
 use Rattle.instructions.proofs.fits.Reads as fits
 use Rattle.instructions.proofs.fields.Reads as fields
 use Rattle.instructions.proofs.decode.Reads as decode
 use Rattle.instructions.proofs.encode.Reads as encode
 use Rattle.moves.proofs.decide.Reads as decide
+use Rattle.monitor.proofs.isolate_verdict.Reads as isolate-verdict
 use Rattle.monitor.proofs.isolate.Reads as isolate
 use Rattle.monitor.proofs.add_target.Reads as add-target
 use Rattle.service.proofs.serve.Reads as serve
@@ -72,7 +74,10 @@ count-once κs a r q s t = same
 pub lowest-once : Once lowest.Post (λ κs r s. r)
 lowest-once κs a r q s t = same
 
--- instructions: fits, fields, decode, encode
+-- instructions: used, fits, fields, decode, encode
+
+pub used-once : Once used.Post (λ κs r s. r)
+used-once κs a r q s t = same
 
 abbrev fieldsIn : words.Decoded → Decoded
 fieldsIn d = record { answer = d .answer; op = d .op; a = d .a; b = d .b; low = d .low }
@@ -100,7 +105,10 @@ encode-once κs a r q s t = same-by wordIn
 pub decide-once : Once decide.Post (λ κs r s. r)
 decide-once κs a r q s t = same
 
--- monitor: isolate, with the owners, jumpers, writers and readers; add_target, with the sets
+-- monitor: isolate_verdict; isolate, with the owners, jumpers, writers and readers; add_target, with the sets
+
+pub isolate-verdict-once : Once isolate-verdict.Post (λ κs r s. r)
+isolate-verdict-once κs a r q s t = same
 
 pub isolate-once : Once isolate.Post {Out = Isolated × Tags} (λ κs r s. (r, tags (s .1 .1 .1 .1 .1 .1 .1)))
 isolate-once κs a r q s t =

@@ -1,0 +1,2 @@
+-- The folder Examples: what is told of given states.
+pub mod WhyExamples
