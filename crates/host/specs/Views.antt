@@ -2,29 +2,29 @@
 use mathlib.Core.List.{List, [], _∷_}
 use Prim.Native.Nat.{ℕ}
 use Rattle.common.specs.Words as words
-use Rattle.rules.specs.Step as step
-use Rattle.rules.specs.Run as run
 use Rattle.rules.specs.Images as images
+use Rattle.rules.specs.Rows as rows
 use Rattle.reasons.specs.Why as reasons
 use Rattle.sources.specs.Meaning as sources
 use Rattle.hex.specs.Importing as hex
+use Rattle.rows.specs.Views.{table}
 use Rattle.machine.specs.Views.{stateOf}
 use Rattle.machine.specs.declared.Processor.{Processor}
 use Rattle.report.specs.Wholes as report
 
 -- ---- what the contracts see
 
-abbrev pub loadedBy : Processor → ℕ → List ℕ → List ℕ → List ℕ → List ℕ → List ℕ → images.Loaded
-loadedBy cpu answer words owners jumpers writers readers = record { answer = answer; state = stateOf cpu words owners jumpers writers readers }
+abbrev pub loadedBy : Processor → ℕ → List ℕ → List ℕ → List ℕ → List ℕ → List ℕ → List (List ℕ) → rows.LentStepped
+loadedBy cpu answer words owners jumpers writers readers lent = record { answer = answer; state = stateOf cpu words owners jumpers writers readers; rows = table lent }
 
 abbrev pub checkedBy : ℕ → ℕ → images.Checked
 checkedBy answer n = record { answer = answer; size = n }
 
-abbrev pub steppedBy : Processor → ℕ → List ℕ → List ℕ → List ℕ → List ℕ → List ℕ → step.Stepped
-steppedBy cpu answer words owners jumpers writers readers = record { answer = answer; state = stateOf cpu words owners jumpers writers readers }
+abbrev pub steppedBy : Processor → ℕ → List ℕ → List ℕ → List ℕ → List ℕ → List ℕ → List (List ℕ) → rows.LentStepped
+steppedBy cpu answer words owners jumpers writers readers lent = record { answer = answer; state = stateOf cpu words owners jumpers writers readers; rows = table lent }
 
-abbrev pub ranBy : Processor → ℕ → ℕ → List ℕ → List ℕ → List ℕ → List ℕ → List ℕ → run.Ran
-ranBy cpu answer count words owners jumpers writers readers = record { answer = answer; state = stateOf cpu words owners jumpers writers readers; count = count }
+abbrev pub ranBy : Processor → ℕ → ℕ → List ℕ → List ℕ → List ℕ → List ℕ → List ℕ → List (List ℕ) → rows.LentRan
+ranBy cpu answer count words owners jumpers writers readers lent = record { answer = answer; state = stateOf cpu words owners jumpers writers readers; rows = table lent; count = count }
 
 -- all that a decoding hands back or may change
 pub record DecodeOutcome : Type 0 where

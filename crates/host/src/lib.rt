@@ -2,21 +2,23 @@
 ghost use mathlib.Core.Path.{_≡_};
 ghost use mathlib.Core.List.{[]};
 ghost use Rattle.common.specs.Words.{decode, encode};
-ghost use Rattle.rules.specs.Step.{step};
+ghost use Rattle.rules.specs.Rows.{lentLoad, lentStep, lentRun};
 ghost use Rattle.reasons.specs.Why.{why};
-ghost use Rattle.rules.specs.Run.{run};
-ghost use Rattle.rules.specs.Images.{load, check, write};
+ghost use Rattle.rules.specs.Images.{check, write};
 ghost use Rattle.rules.specs.Counts.{ownedCount, jumpCount, storeCount, widest};
 ghost use Rattle.sources.specs.Meaning.{assemble};
 ghost use Rattle.sources.specs.Listing.{disassemble};
 ghost use Rattle.hex.specs.Exporting.{export};
 ghost use Rattle.hex.specs.Importing.{import};
+ghost use Rattle.rows.specs.Views.{table};
 ghost use Rattle.machine.specs.Views.{stateOf};
 ghost use Rattle.loader.specs.Views.{lent};
 ghost use Rattle.host.specs.Views.{loadedBy, checkedBy, steppedBy, ranBy, decodedBy, laidOut, toldBy, allTold, encodedBy, writtenBy, assembledBy, importedBy};
 use machine::Processor;
+use rows::Row;
 
-// Loads an image over whatever the record held, for a run in a mode; a refused load leaves the blank record of that mode.
+// Loads an image over whatever the record and the table held, for a run in a mode; a refused load leaves the blank record of that mode, and
+// the table as it was.
 #[no_mangle]
 pub extern "C" fn kl_load(
     cpu: &mut Processor,
@@ -27,10 +29,20 @@ pub extern "C" fn kl_load(
     jumpers: &mut [u64],
     writers: &mut [u64],
     readers: &mut [u64],
+    rows: &mut [Row],
 ) -> u32
-    ensures { λ r. ⌜ loadedBy (now (cpu .exit)) r (now (words .exit)) (now (owners .exit)) (now (jumpers .exit)) (now (writers .exit)) (now (readers .exit)) ≡ load strict (now (bytes .entry)) (lent (now (words .entry)) (now (owners .entry)) (now (jumpers .entry)) (now (writers .entry)) (now (readers .entry))) ⌝ }
+    ensures { λ r. ⌜ loadedBy (now (cpu .exit)) r (now (words .exit)) (now (owners .exit)) (now (jumpers .exit)) (now (writers .exit)) (now (readers .exit)) (now (rows .exit)) ≡ lentLoad strict (now (bytes .entry)) (lent (now (words .entry)) (now (owners .entry)) (now (jumpers .entry)) (now (writers .entry)) (now (readers .entry))) (table (now (rows .entry))) ⌝ }
 {
-    let l = loader::load(strict, bytes, words, owners, jumpers, writers, readers);
+    let l = loader::load_rows(
+        strict,
+        bytes,
+        words,
+        owners,
+        jumpers,
+        writers,
+        readers,
+        rows,
+    );
     *cpu = l.cpu;
     l.answer
 }
@@ -45,7 +57,7 @@ pub extern "C" fn kl_check(bytes: &[u8], n: &mut u32) -> u32
     c.answer
 }
 
-// One step.
+// One step; the rows move by what the counts move.
 #[no_mangle]
 pub extern "C" fn kl_step(
     cpu: &mut Processor,
@@ -54,15 +66,16 @@ pub extern "C" fn kl_step(
     jumpers: &mut [u64],
     writers: &mut [u64],
     readers: &mut [u64],
+    rows: &mut [Row],
 ) -> u32
-    ensures { λ r. ⌜ steppedBy (now (cpu .exit)) r (now (words .exit)) (now (owners .exit)) (now (jumpers .exit)) (now (writers .exit)) (now (readers .exit)) ≡ step (stateOf (now (cpu .entry)) (now (words .entry)) (now (owners .entry)) (now (jumpers .entry)) (now (writers .entry)) (now (readers .entry))) ⌝ }
+    ensures { λ r. ⌜ steppedBy (now (cpu .exit)) r (now (words .exit)) (now (owners .exit)) (now (jumpers .exit)) (now (writers .exit)) (now (readers .exit)) (now (rows .exit)) ≡ lentStep (stateOf (now (cpu .entry)) (now (words .entry)) (now (owners .entry)) (now (jumpers .entry)) (now (writers .entry)) (now (readers .entry))) (table (now (rows .entry))) ⌝ }
 {
-    let s = cpu.step(words, owners, jumpers, writers, readers);
+    let s = cpu.step_rows(words, owners, jumpers, writers, readers, rows);
     *cpu = s.cpu;
     s.answer
 }
 
-// Steps until the first nonzero answer or until the budget is used; count is how many answered 0.
+// Steps until the first nonzero answer or until the budget is used, and moves the rows with each; count is how many answered 0.
 #[no_mangle]
 pub extern "C" fn kl_run(
     cpu: &mut Processor,
@@ -71,12 +84,13 @@ pub extern "C" fn kl_run(
     jumpers: &mut [u64],
     writers: &mut [u64],
     readers: &mut [u64],
+    rows: &mut [Row],
     budget: u32,
     count: &mut u32,
 ) -> u32
-    ensures { λ r. ⌜ ranBy (now (cpu .exit)) r (now (count .exit)) (now (words .exit)) (now (owners .exit)) (now (jumpers .exit)) (now (writers .exit)) (now (readers .exit)) ≡ run budget (stateOf (now (cpu .entry)) (now (words .entry)) (now (owners .entry)) (now (jumpers .entry)) (now (writers .entry)) (now (readers .entry))) ⌝ }
+    ensures { λ r. ⌜ ranBy (now (cpu .exit)) r (now (count .exit)) (now (words .exit)) (now (owners .exit)) (now (jumpers .exit)) (now (writers .exit)) (now (readers .exit)) (now (rows .exit)) ≡ lentRun budget (stateOf (now (cpu .entry)) (now (words .entry)) (now (owners .entry)) (now (jumpers .entry)) (now (writers .entry)) (now (readers .entry))) (table (now (rows .entry))) ⌝ }
 {
-    let r = cpu.run(words, owners, jumpers, writers, readers, budget);
+    let r = cpu.run_rows(words, owners, jumpers, writers, readers, budget, rows);
     *cpu = r.cpu;
     *count = r.count;
     r.answer

@@ -60,7 +60,7 @@ module _ (w : Width) where
 
   -- the MIR of the call, by the name of the one beneath it
   abbrev function : Name → Fn
-  function callee = made 2 3 (value (tyInt w32) ∷ value (tyRef (named 0) imm (pointee (T.the-row .written))) ∷ value (slice (named 1) imm w) ∷ value (tyInt w32) ∷ value T′.mir ∷ []) (seq (assign (place 4 []) (rvOpd (copy (place 1 (deref T′.mir ∷ []))))) (seq (call callee (copy (place 4 []) ∷ copy (place 2 []) ∷ copy (place 3 []) ∷ []) (place 0 [])) return))
+  function callee = made 2 3 (value (tyInt w32) ∷ value (tyRef (named 0) imm (pointee (T.the-row .written))) ∷ value (slice (named 1) imm (tyInt w)) ∷ value (tyInt w32) ∷ value T′.mir ∷ []) (seq (assign (place 4 []) (rvOpd (copy (place 1 (deref T′.mir ∷ []))))) (seq (call callee (copy (place 4 []) ∷ copy (place 2 []) ∷ copy (place 3 []) ∷ []) (place 0 [])) return))
 
   abbrev stayed : Stays (ended .signature .params) (ended .kept)
   stayed = (stay-none-ref (0 ∷ []) tt (plain (λ _. T.the-row)) yes, (stay-none-slice (1 ∷ []) tt (plain (λ _. UInt w)) yes, (stay-none (λ _. u32) yes, tt)))

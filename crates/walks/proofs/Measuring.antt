@@ -49,7 +49,7 @@ beneath = taking 2 (plain (λ κs. T.the-row) ∷ SliceRefOf (0 ∷ []) tt (plai
 
 -- the MIR of the call, by the name of the one beneath it
 abbrev function : Name → Fn
-function callee = made 3 3 (value (tyInt w32) ∷ value (tyRef (named 0) imm (pointee (T.the-row .written))) ∷ value (slice (named 1) imm w32) ∷ value (slice (named 2) imm w64) ∷ value T′.mir ∷ []) (seq (assign (place 4 []) (rvOpd (copy (place 1 (deref T′.mir ∷ []))))) (seq (call callee (copy (place 4 []) ∷ copy (place 2 []) ∷ copy (place 3 []) ∷ []) (place 0 [])) return))
+function callee = made 3 3 (value (tyInt w32) ∷ value (tyRef (named 0) imm (pointee (T.the-row .written))) ∷ value (slice (named 1) imm (tyInt w32)) ∷ value (slice (named 2) imm (tyInt w64)) ∷ value T′.mir ∷ []) (seq (assign (place 4 []) (rvOpd (copy (place 1 (deref T′.mir ∷ []))))) (seq (call callee (copy (place 4 []) ∷ copy (place 2 []) ∷ copy (place 3 []) ∷ []) (place 0 [])) return))
 
 abbrev Arg : Type 0
 Arg = (RefT Processor × (RefT (List ℕ) × (RefT (List ℕ) × Unit {0})))

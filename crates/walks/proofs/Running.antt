@@ -1,5 +1,5 @@
--- A call that hands a lent record and a budget on with the five memories, and stores the record and the count that come back, promises what the call beneath it promises: a walk of its MIR.
--- The memories go to the callee at their own lifetimes, shares and names, so nothing has to come back. The count is stored through a borrow of its own.
+-- A call that hands a lent record and a budget on with the five memories and the table, and stores the record and the count that come back, promises what the call beneath it promises: a walk of its MIR.
+-- Memories and table go to the callee at their own lifetimes, shares and names, so nothing has to come back. The count is stored through a borrow of its own.
 use mathlib.Core.Path.{_≡_, refl, ap}
 use Prim.Native.Nat.{ℕ, _<_, _^_}
 use mathlib.Core.List.{[], _∷_, List}
@@ -44,111 +44,113 @@ use Rattle.machine.specs.declared.Ran.{Ran}
 use Rattle.machine.proofs.Ran as S
 use Rattle.machine.proofs.Ran.Laws as S′
 use Rattle.walks.proofs.Vouched.{vouched}
-use Rattle.walks.proofs.Pieces.{value, slice, lendOn, spelled, taking, made, recVal, ansVal}
+use Rattle.walks.proofs.Pieces.{value, row, rowMir, slice, lendOn, spelled, taking, made, recVal, ansVal}
 
 -- the call, and the call beneath it
 abbrev ended : Ended
-ended = taking 7 (RefMutOf (0 ∷ []) tt (plain (λ κs. T.the-row)) (λ κs. tt) ∷ SliceRefMutOf (1 ∷ []) tt (plain (λ κs. u32)) (λ κs. tt) ∷ SliceRefMutOf (2 ∷ []) tt (plain (λ κs. u32)) (λ κs. tt) ∷ SliceRefMutOf (3 ∷ []) tt (plain (λ κs. u64)) (λ κs. tt) ∷ SliceRefMutOf (4 ∷ []) tt (plain (λ κs. u64)) (λ κs. tt) ∷ SliceRefMutOf (5 ∷ []) tt (plain (λ κs. u64)) (λ κs. tt) ∷ plain (λ κs. u32) ∷ RefMutOf (6 ∷ []) tt (plain (λ κs. u32)) (λ κs. tt) ∷ []) (plain (λ κs. u32)) (yes, (yes, (yes, (yes, (yes, (yes, (yes, (yes, tt))))))))
+ended = taking 8 (RefMutOf (0 ∷ []) tt (plain (λ κs. T.the-row)) (λ κs. tt) ∷ SliceRefMutOf (1 ∷ []) tt (plain (λ κs. u32)) (λ κs. tt) ∷ SliceRefMutOf (2 ∷ []) tt (plain (λ κs. u32)) (λ κs. tt) ∷ SliceRefMutOf (3 ∷ []) tt (plain (λ κs. u64)) (λ κs. tt) ∷ SliceRefMutOf (4 ∷ []) tt (plain (λ κs. u64)) (λ κs. tt) ∷ SliceRefMutOf (5 ∷ []) tt (plain (λ κs. u64)) (λ κs. tt) ∷ SliceRefMutOf (6 ∷ []) tt (plain (λ κs. row)) (λ κs. tt) ∷ plain (λ κs. u32) ∷ RefMutOf (7 ∷ []) tt (plain (λ κs. u32)) (λ κs. tt) ∷ []) (plain (λ κs. u32)) (yes, (yes, (yes, (yes, (yes, (yes, (yes, (yes, (yes, tt)))))))))
 
 abbrev beneath : Ended
-beneath = taking 5 (plain (λ κs. T.the-row) ∷ SliceRefMutOf (0 ∷ []) tt (plain (λ κs. u32)) (λ κs. tt) ∷ SliceRefMutOf (1 ∷ []) tt (plain (λ κs. u32)) (λ κs. tt) ∷ SliceRefMutOf (2 ∷ []) tt (plain (λ κs. u64)) (λ κs. tt) ∷ SliceRefMutOf (3 ∷ []) tt (plain (λ κs. u64)) (λ κs. tt) ∷ SliceRefMutOf (4 ∷ []) tt (plain (λ κs. u64)) (λ κs. tt) ∷ plain (λ κs. u32) ∷ []) (plain (λ κs. S.the-row)) (yes, (yes, (yes, (yes, (yes, (yes, (yes, tt)))))))
+beneath = taking 6 (plain (λ κs. T.the-row) ∷ SliceRefMutOf (0 ∷ []) tt (plain (λ κs. u32)) (λ κs. tt) ∷ SliceRefMutOf (1 ∷ []) tt (plain (λ κs. u32)) (λ κs. tt) ∷ SliceRefMutOf (2 ∷ []) tt (plain (λ κs. u64)) (λ κs. tt) ∷ SliceRefMutOf (3 ∷ []) tt (plain (λ κs. u64)) (λ κs. tt) ∷ SliceRefMutOf (4 ∷ []) tt (plain (λ κs. u64)) (λ κs. tt) ∷ plain (λ κs. u32) ∷ SliceRefMutOf (5 ∷ []) tt (plain (λ κs. row)) (λ κs. tt) ∷ []) (plain (λ κs. S.the-row)) (yes, (yes, (yes, (yes, (yes, (yes, (yes, (yes, tt))))))))
 
 -- the MIR of the call, by the name of the one beneath it
 abbrev function : Name → Fn
-function callee = made 7 8 (value (tyInt w32) ∷ value (tyRef (named 0) mut (pointee (T.the-row .written))) ∷ value (slice (named 1) mut w32) ∷ value (slice (named 2) mut w32) ∷ value (slice (named 3) mut w64) ∷ value (slice (named 4) mut w64) ∷ value (slice (named 5) mut w64) ∷ value (tyInt w32) ∷ value (tyRef (named 6) mut (tyInt w32)) ∷ value S′.mir ∷ value T′.mir ∷ value (tyRef erased mut (tyInt w32)) ∷ value (slice erased mut w32) ∷ value (tyRef erased mut (tyInt w32)) ∷ value (slice erased mut w32) ∷ value (tyRef erased mut (tyInt w64)) ∷ value (slice erased mut w64) ∷ value (tyRef erased mut (tyInt w64)) ∷ value (slice erased mut w64) ∷ value (tyRef erased mut (tyInt w64)) ∷ value (slice erased mut w64) ∷ []) (seq (assign (place 10 []) (rvOpd (copy (place 1 (deref T′.mir ∷ []))))) (lendOn 2 11 w32 (lendOn 3 13 w32 (lendOn 4 15 w64 (lendOn 5 17 w64 (lendOn 6 19 w64 (seq (call callee (copy (place 10 []) ∷ copy (place 12 []) ∷ copy (place 14 []) ∷ copy (place 16 []) ∷ copy (place 18 []) ∷ copy (place 20 []) ∷ copy (place 7 []) ∷ []) (place 9 [])) (seq (assign (place 1 (deref T′.mir ∷ [])) (rvOpd (copy (place 9 (field 0 ∷ []))))) (seq (assign (place 8 (deref (tyInt w32) ∷ [])) (rvOpd (copy (place 9 (field 2 ∷ []))))) (seq (assign (place 0 []) (rvOpd (copy (place 9 (field 1 ∷ []))))) return))))))))))
+function callee = made 8 9 (value (tyInt w32) ∷ value (tyRef (named 0) mut (pointee (T.the-row .written))) ∷ value (slice (named 1) mut (tyInt w32)) ∷ value (slice (named 2) mut (tyInt w32)) ∷ value (slice (named 3) mut (tyInt w64)) ∷ value (slice (named 4) mut (tyInt w64)) ∷ value (slice (named 5) mut (tyInt w64)) ∷ value (slice (named 6) mut rowMir) ∷ value (tyInt w32) ∷ value (tyRef (named 7) mut (tyInt w32)) ∷ value S′.mir ∷ value T′.mir ∷ value (tyRef erased mut (tyInt w32)) ∷ value (slice erased mut (tyInt w32)) ∷ value (tyRef erased mut (tyInt w32)) ∷ value (slice erased mut (tyInt w32)) ∷ value (tyRef erased mut (tyInt w64)) ∷ value (slice erased mut (tyInt w64)) ∷ value (tyRef erased mut (tyInt w64)) ∷ value (slice erased mut (tyInt w64)) ∷ value (tyRef erased mut (tyInt w64)) ∷ value (slice erased mut (tyInt w64)) ∷ value (tyRef erased mut rowMir) ∷ value (slice erased mut rowMir) ∷ []) (seq (assign (place 11 []) (rvOpd (copy (place 1 (deref T′.mir ∷ []))))) (lendOn 2 12 (tyInt w32) (lendOn 3 14 (tyInt w32) (lendOn 4 16 (tyInt w64) (lendOn 5 18 (tyInt w64) (lendOn 6 20 (tyInt w64) (lendOn 7 22 rowMir (seq (call callee (copy (place 11 []) ∷ copy (place 13 []) ∷ copy (place 15 []) ∷ copy (place 17 []) ∷ copy (place 19 []) ∷ copy (place 21 []) ∷ copy (place 8 []) ∷ copy (place 23 []) ∷ []) (place 10 [])) (seq (assign (place 1 (deref T′.mir ∷ [])) (rvOpd (copy (place 10 (field 0 ∷ []))))) (seq (assign (place 9 (deref (tyInt w32) ∷ [])) (rvOpd (copy (place 10 (field 2 ∷ []))))) (seq (assign (place 0 []) (rvOpd (copy (place 10 (field 1 ∷ []))))) return)))))))))))
 
 abbrev Arg : Type 0
-Arg = (RefT Processor × (RefT (List ℕ) × (RefT (List ℕ) × (RefT (List ℕ) × (RefT (List ℕ) × (RefT (List ℕ) × (ℕ × (RefT ℕ × Unit {0}))))))))
+Arg = (RefT Processor × (RefT (List ℕ) × (RefT (List ℕ) × (RefT (List ℕ) × (RefT (List ℕ) × (RefT (List ℕ) × (RefT (List (List ℕ)) × (ℕ × (RefT ℕ × Unit {0})))))))))
 
 abbrev CalleeArg : Type 0
-CalleeArg = (Processor × (RefT (List ℕ) × (RefT (List ℕ) × (RefT (List ℕ) × (RefT (List ℕ) × (RefT (List ℕ) × (ℕ × Unit {0})))))))
+CalleeArg = (Processor × (RefT (List ℕ) × (RefT (List ℕ) × (RefT (List ℕ) × (RefT (List ℕ) × (RefT (List ℕ) × (ℕ × (RefT (List (List ℕ)) × Unit {0}))))))))
 
 -- the last values that the callee says, one for each parameter
 abbrev Lasts : Type 0
-Lasts = (Unit {0} × (List ℕ × (List ℕ × (List ℕ × (List ℕ × (List ℕ × (Unit {0} × Unit {0})))))))
+Lasts = (Unit {0} × (List ℕ × (List ℕ × (List ℕ × (List ℕ × (List ℕ × (Unit {0} × (List (List ℕ) × Unit {0}))))))))
 
 abbrev stayed : Stays (ended .signature .params) (ended .kept)
-stayed = (stay-ref (0 ∷ []) tt (plain (λ _. T.the-row)), (gave-slice (1 ∷ []) tt (plain (λ _. u32)), (gave-slice (2 ∷ []) tt (plain (λ _. u32)), (gave-slice (3 ∷ []) tt (plain (λ _. u64)), (gave-slice (4 ∷ []) tt (plain (λ _. u64)), (gave-slice (5 ∷ []) tt (plain (λ _. u64)), (stay-none (λ _. u32) yes, (stay-ref (6 ∷ []) tt (plain (λ _. u32)), tt))))))))
+stayed = (stay-ref (0 ∷ []) tt (plain (λ _. T.the-row)), (gave-slice (1 ∷ []) tt (plain (λ _. u32)), (gave-slice (2 ∷ []) tt (plain (λ _. u32)), (gave-slice (3 ∷ []) tt (plain (λ _. u64)), (gave-slice (4 ∷ []) tt (plain (λ _. u64)), (gave-slice (5 ∷ []) tt (plain (λ _. u64)), (gave-slice (6 ∷ []) tt (plain (λ _. row)), (stay-none (λ _. u32) yes, (stay-ref (7 ∷ []) tt (plain (λ _. u32)), tt)))))))))
 
 -- whatever is promised beneath; promised is what the call promises, and holds says that this follows
-module _ (Promise : Processor → List ℕ → List ℕ → List ℕ → List ℕ → List ℕ → ℕ → Ran → List ℕ → List ℕ → List ℕ → List ℕ → List ℕ → Type 0) {M : Type 1} (𝓤 : URA M) (H : Heap 𝓤) (A : Atoms 𝓤) (promised : (κs : Lfts 7) → Arg → ℕ → AtExit ended κs → SProp 𝓤)
-    (holds : (κs : Lfts 7) (a : Arg) (s : Ran) (z0 z1 z2 z3 z4 : List ℕ) → Promise (now (a .0)) (now (a .1 .0)) (now (a .1 .1 .0)) (now (a .1 .1 .1 .0)) (now (a .1 .1 .1 .1 .0)) (now (a .1 .1 .1 .1 .1 .0)) (a .1 .1 .1 .1 .1 .1 .0) s z0 z1 z2 z3 z4 → ent 𝓤 (emp 𝓤) (promised κs a (s .answer) (atExit ended κs a (s .cpu, (z0, (z1, (z2, (z3, (z4, (tt, (s .count, tt))))))))))) where
+module _ (Promise : Processor → List ℕ → List ℕ → List ℕ → List ℕ → List ℕ → ℕ → List (List ℕ) → Ran → List ℕ → List ℕ → List ℕ → List ℕ → List ℕ → List (List ℕ) → Type 0) {M : Type 1} (𝓤 : URA M) (H : Heap 𝓤) (A : Atoms 𝓤) (promised : (κs : Lfts 8) → Arg → ℕ → AtExit ended κs → SProp 𝓤)
+    (holds : (κs : Lfts 8) (a : Arg) (s : Ran) (z0 z1 z2 z3 z4 : List ℕ) (z5 : List (List ℕ)) → Promise (now (a .0)) (now (a .1 .0)) (now (a .1 .1 .0)) (now (a .1 .1 .1 .0)) (now (a .1 .1 .1 .1 .0)) (now (a .1 .1 .1 .1 .1 .0)) (a .1 .1 .1 .1 .1 .1 .1 .0) (now (a .1 .1 .1 .1 .1 .1 .0)) s z0 z1 z2 z3 z4 z5 → ent 𝓤 (emp 𝓤) (promised κs a (s .answer) (atExit ended κs a (s .cpu, (z0, (z1, (z2, (z3, (z4, (z5, (tt, (s .count, tt)))))))))))) where
   abbrev clauses : Clauses 𝓤 ended
   clauses κs a = record { ghost = Unit {0}; requires = λ _. emp 𝓤; ensures = λ _ r e. promised κs a r e }
 
   abbrev beneathClauses : Clauses 𝓤 beneath
-  beneathClauses κs a = record { ghost = Unit {0}; requires = λ _. emp 𝓤; ensures = λ _ r e. fact 𝓤 (Promise (a .0) (now (a .1 .0)) (now (a .1 .1 .0)) (now (a .1 .1 .1 .0)) (now (a .1 .1 .1 .1 .0)) (now (a .1 .1 .1 .1 .1 .0)) (a .1 .1 .1 .1 .1 .1 .0) r (now (e .1 .0)) (now (e .1 .1 .0)) (now (e .1 .1 .1 .0)) (now (e .1 .1 .1 .1 .0)) (now (e .1 .1 .1 .1 .1 .0))) }
+  beneathClauses κs a = record { ghost = Unit {0}; requires = λ _. emp 𝓤; ensures = λ _ r e. fact 𝓤 (Promise (a .0) (now (a .1 .0)) (now (a .1 .1 .0)) (now (a .1 .1 .1 .0)) (now (a .1 .1 .1 .1 .0)) (now (a .1 .1 .1 .1 .1 .0)) (a .1 .1 .1 .1 .1 .1 .0) (now (a .1 .1 .1 .1 .1 .1 .1 .0)) r (now (e .1 .0)) (now (e .1 .1 .0)) (now (e .1 .1 .1 .0)) (now (e .1 .1 .1 .1 .0)) (now (e .1 .1 .1 .1 .1 .0)) (now (e .1 .1 .1 .1 .1 .1 .1 .0))) }
 
   abbrev Callee : Contract 𝓤
   Callee = tripleOf 𝓤 H A (beneath .signature) (closing 𝓤 H A beneath beneathClauses)
 
-  module _ (W : Given 𝓤 H A) (κ0 : Lft) (q0 : Share) (b o : ℕ) (γ : GName) (h : Processor) (κ1 : Lft) (q1 : Share) (x0 : RefT (List ℕ)) (room0 : Room u32 (length (x0 .now))) (κ2 : Lft) (q2 : Share) (x1 : RefT (List ℕ)) (room1 : Room u32 (length (x1 .now))) (κ3 : Lft) (q3 : Share) (x2 : RefT (List ℕ)) (room2 : Room u64 (length (x2 .now))) (κ4 : Lft) (q4 : Share) (x3 : RefT (List ℕ)) (room3 : Room u64 (length (x3 .now))) (κ5 : Lft) (q5 : Share) (x4 : RefT (List ℕ)) (room4 : Room u64 (length (x4 .now))) (n5 : ℕ) (fits5 : n5 < 2 ^ 32) (κ6 : Lft) (q6 : Share) (bo oo : ℕ) (γo : GName) (ho : ℕ) where
+  module _ (W : Given 𝓤 H A) (κ0 : Lft) (q0 : Share) (b o : ℕ) (γ : GName) (h : Processor) (κ1 : Lft) (q1 : Share) (x0 : RefT (List ℕ)) (room0 : Room u32 (length (x0 .now))) (κ2 : Lft) (q2 : Share) (x1 : RefT (List ℕ)) (room1 : Room u32 (length (x1 .now))) (κ3 : Lft) (q3 : Share) (x2 : RefT (List ℕ)) (room2 : Room u64 (length (x2 .now))) (κ4 : Lft) (q4 : Share) (x3 : RefT (List ℕ)) (room3 : Room u64 (length (x3 .now))) (κ5 : Lft) (q5 : Share) (x4 : RefT (List ℕ)) (room4 : Room u64 (length (x4 .now))) (κ6 : Lft) (q6 : Share) (x5 : RefT (List (List ℕ))) (room5 : Room row (length (x5 .now))) (n6 : ℕ) (fits6 : n6 < 2 ^ 32) (κ7 : Lft) (q7 : Share) (bo oo : ℕ) (γo : GName) (ho : ℕ) where
     abbrev a : Arg
-    a = (record { ptr = (b, o); name = γ; now = h }, (x0, (x1, (x2, (x3, (x4, (n5, (record { ptr = (bo, oo); name = γo; now = ho }, tt))))))))
+    a = (record { ptr = (b, o); name = γ; now = h }, (x0, (x1, (x2, (x3, (x4, (x5, (n6, (record { ptr = (bo, oo); name = γo; now = ho }, tt)))))))))
 
     abbrev passed : CalleeArg
-    passed = (h, (x0, (x1, (x2, (x3, (x4, (n5, tt)))))))
+    passed = (h, (x0, (x1, (x2, (x3, (x4, (n6, (x5, tt))))))))
 
-    abbrev vals : (List Val × (List Val × (List Val × (List Val × (List Val × (List Val × (List Val × (List Val × Unit {0}))))))))
-    vals = (vptr b o ∷ [], ((spelled x0) ∷ [], ((spelled x1) ∷ [], ((spelled x2) ∷ [], ((spelled x3) ∷ [], ((spelled x4) ∷ [], (vint w32 n5 ∷ [], (vptr bo oo ∷ [], tt))))))))
+    abbrev vals : (List Val × (List Val × (List Val × (List Val × (List Val × (List Val × (List Val × (List Val × (List Val × Unit {0})))))))))
+    vals = (vptr b o ∷ [], ((spelled x0) ∷ [], ((spelled x1) ∷ [], ((spelled x2) ∷ [], ((spelled x3) ∷ [], ((spelled x4) ∷ [], ((spelled x5) ∷ [], (vint w32 n6 ∷ [], (vptr bo oo ∷ [], tt)))))))))
 
     abbrev Post : Val → SProp 𝓤
-    Post = walkOf 𝓤 H A ended stayed clauses .post (((κ0, (κ1, (κ2, (κ3, (κ4, (κ5, (κ6, tt))))))), (q0, (q1, (q2, (q3, (q4, (q5, (q6, tt))))))), tt, a, vals), tt)
+    Post = walkOf 𝓤 H A ended stayed clauses .post (((κ0, (κ1, (κ2, (κ3, (κ4, (κ5, (κ6, (κ7, tt)))))))), (q0, (q1, (q2, (q3, (q4, (q5, (q6, (q7, tt)))))))), tt, a, vals), tt)
 
     abbrev Said : Ran → Lasts → Type 0
-    Said r zs = Promise h (x0 .now) (x1 .now) (x2 .now) (x3 .now) (x4 .now) n5 r (zs .1 .0) (zs .1 .1 .0) (zs .1 .1 .1 .0) (zs .1 .1 .1 .1 .0) (zs .1 .1 .1 .1 .1 .0)
+    Said r zs = Promise h (x0 .now) (x1 .now) (x2 .now) (x3 .now) (x4 .now) n6 (x5 .now) r (zs .1 .0) (zs .1 .1 .0) (zs .1 .1 .1 .0) (zs .1 .1 .1 .1 .0) (zs .1 .1 .1 .1 .1 .0) (zs .1 .1 .1 .1 .1 .1 .1 .0)
 
     abbrev to-callee : Callee .Ghost
-    to-callee = (((κ1, (κ2, (κ3, (κ4, (κ5, tt))))), (q1, (q2, (q3, (q4, (q5, tt))))), tt, passed, (recVal h ∷ [], ((spelled x0) ∷ [], ((spelled x1) ∷ [], ((spelled x2) ∷ [], ((spelled x3) ∷ [], ((spelled x4) ∷ [], (vint w32 n5 ∷ [], tt)))))))), tt)
+    to-callee = (((κ1, (κ2, (κ3, (κ4, (κ5, (κ6, tt)))))), (q1, (q2, (q3, (q4, (q5, (q6, tt)))))), tt, passed, (recVal h ∷ [], ((spelled x0) ∷ [], ((spelled x1) ∷ [], ((spelled x2) ∷ [], ((spelled x3) ∷ [], ((spelled x4) ∷ [], (vint w32 n6 ∷ [], ((spelled x5) ∷ [], tt))))))))), tt)
 
-    goes-callee : ent 𝓤 (⋆ 𝓤 H A (((‵ (flft κ1 q1) ⊛ ‵ (flft κ2 q2) ⊛ ‵ (flft κ3 q3) ⊛ ‵ (flft κ4 q4) ⊛ ‵ (flft κ5 q5) ⊛ ‵ ftrue) ⊛ ‵ (owns (T.the-row ∷ MutSlice (named 0) κ1 u32 ∷ MutSlice (named 1) κ2 u32 ∷ MutSlice (named 2) κ3 u64 ∷ MutSlice (named 3) κ4 u64 ∷ MutSlice (named 4) κ5 u64 ∷ u32 ∷ []) passed (recVal h ∷ [], ((spelled x0) ∷ [], ((spelled x1) ∷ [], ((spelled x2) ∷ [], ((spelled x3) ∷ [], ((spelled x4) ∷ [], (vint w32 n5 ∷ [], tt))))))))) ∷ [])) (Callee .pre to-callee)
-    goes-callee = qed W (((‵ (flft κ1 q1) ⊛ ‵ (flft κ2 q2) ⊛ ‵ (flft κ3 q3) ⊛ ‵ (flft κ4 q4) ⊛ ‵ (flft κ5 q5) ⊛ ‵ ftrue) ⊛ ‵ (owns (T.the-row ∷ MutSlice (named 0) κ1 u32 ∷ MutSlice (named 1) κ2 u32 ∷ MutSlice (named 2) κ3 u64 ∷ MutSlice (named 3) κ4 u64 ∷ MutSlice (named 4) κ5 u64 ∷ u32 ∷ []) passed (recVal h ∷ [], ((spelled x0) ∷ [], ((spelled x1) ∷ [], ((spelled x2) ∷ [], ((spelled x3) ∷ [], ((spelled x4) ∷ [], (vint w32 n5 ∷ [], tt))))))))) ∷ []) ∵ frame ! $ done !
+    goes-callee : ent 𝓤 (⋆ 𝓤 H A (((‵ (flft κ1 q1) ⊛ ‵ (flft κ2 q2) ⊛ ‵ (flft κ3 q3) ⊛ ‵ (flft κ4 q4) ⊛ ‵ (flft κ5 q5) ⊛ ‵ (flft κ6 q6) ⊛ ‵ ftrue) ⊛ ‵ (owns (T.the-row ∷ MutSlice (named 0) κ1 u32 ∷ MutSlice (named 1) κ2 u32 ∷ MutSlice (named 2) κ3 u64 ∷ MutSlice (named 3) κ4 u64 ∷ MutSlice (named 4) κ5 u64 ∷ u32 ∷ MutSlice (named 5) κ6 row ∷ []) passed (recVal h ∷ [], ((spelled x0) ∷ [], ((spelled x1) ∷ [], ((spelled x2) ∷ [], ((spelled x3) ∷ [], ((spelled x4) ∷ [], (vint w32 n6 ∷ [], ((spelled x5) ∷ [], tt)))))))))) ∷ [])) (Callee .pre to-callee)
+    goes-callee = qed W (((‵ (flft κ1 q1) ⊛ ‵ (flft κ2 q2) ⊛ ‵ (flft κ3 q3) ⊛ ‵ (flft κ4 q4) ⊛ ‵ (flft κ5 q5) ⊛ ‵ (flft κ6 q6) ⊛ ‵ ftrue) ⊛ ‵ (owns (T.the-row ∷ MutSlice (named 0) κ1 u32 ∷ MutSlice (named 1) κ2 u32 ∷ MutSlice (named 2) κ3 u64 ∷ MutSlice (named 3) κ4 u64 ∷ MutSlice (named 4) κ5 u64 ∷ u32 ∷ MutSlice (named 5) κ6 row ∷ []) passed (recVal h ∷ [], ((spelled x0) ∷ [], ((spelled x1) ∷ [], ((spelled x2) ∷ [], ((spelled x3) ∷ [], ((spelled x4) ∷ [], (vint w32 n6 ∷ [], ((spelled x5) ∷ [], tt)))))))))) ∷ []) ∵ frame ! $ done !
 
-    exits : (r : Ran) (zs : Lasts) → Said r zs → length (zs .1 .0) ≡ length (x0 .now) → length (zs .1 .1 .0) ≡ length (x1 .now) → length (zs .1 .1 .1 .0) ≡ length (x2 .now) → length (zs .1 .1 .1 .1 .0) ≡ length (x3 .now) → length (zs .1 .1 .1 .1 .1 .0) ≡ length (x4 .now) → Is u32 (r .answer) (ansVal (r .answer) ∷ [])
-        → ent 𝓤 (⋆ 𝓤 H A (‵ (fobs γ (T.the-row .coded .code (r .cpu))) ∷ ‵ (fbor κ0 (Body (mem T.the-row) b o γ)) ∷ ‵ (flft κ0 q0) ∷ ‵ (finally u32 (x0 .name) (zs .1 .0)) ∷ ‵ (finally u32 (x1 .name) (zs .1 .1 .0)) ∷ ‵ (finally u64 (x2 .name) (zs .1 .1 .1 .0)) ∷ ‵ (finally u64 (x3 .name) (zs .1 .1 .1 .1 .0)) ∷ ‵ (finally u64 (x4 .name) (zs .1 .1 .1 .1 .1 .0)) ∷ (‵ (flft κ1 q1) ⊛ ‵ (flft κ2 q2) ⊛ ‵ (flft κ3 q3) ⊛ ‵ (flft κ4 q4) ⊛ ‵ (flft κ5 q5) ⊛ ‵ ftrue) ∷ ‵ (fobs γo (u32 .coded .code (r .count))) ∷ ‵ (fbor κ6 (Body (mem u32) bo oo γo)) ∷ ‵ (flft κ6 q6) ∷ [])) (Post (ansVal (r .answer)))
-    exits r zs e len0 len1 len2 len3 len4 fits =
-        qed W (‵ (fobs γ (T.the-row .coded .code (r .cpu))) ∷ ‵ (fbor κ0 (Body (mem T.the-row) b o γ)) ∷ ‵ (flft κ0 q0) ∷ ‵ (finally u32 (x0 .name) (zs .1 .0)) ∷ ‵ (finally u32 (x1 .name) (zs .1 .1 .0)) ∷ ‵ (finally u64 (x2 .name) (zs .1 .1 .1 .0)) ∷ ‵ (finally u64 (x3 .name) (zs .1 .1 .1 .1 .0)) ∷ ‵ (finally u64 (x4 .name) (zs .1 .1 .1 .1 .1 .0)) ∷ (‵ (flft κ1 q1) ⊛ ‵ (flft κ2 q2) ⊛ ‵ (flft κ3 q3) ⊛ ‵ (flft κ4 q4) ⊛ ‵ (flft κ5 q5) ⊛ ‵ ftrue) ∷ ‵ (fobs γo (u32 .coded .code (r .count))) ∷ ‵ (fbor κ6 (Body (mem u32) bo oo γo)) ∷ ‵ (flft κ6 q6) ∷ []) ∵
-        suffices ! _ (ends-at 𝓤 H A ended stayed clauses W (((κ0, (κ1, (κ2, (κ3, (κ4, (κ5, (κ6, tt))))))), (q0, (q1, (q2, (q3, (q4, (q5, (q6, tt))))))), tt, a, vals), tt) (ansVal (r .answer)) (r .answer) (r .cpu, (zs .1 .0, (zs .1 .1 .0, (zs .1 .1 .1 .0, (zs .1 .1 .1 .1 .0, (zs .1 .1 .1 .1 .1 .0, (tt, (r .count, tt)))))))) (tt, (len0, (len1, (len2, (len3, (len4, (tt, (tt, tt))))))))) $
-        vouched ! (holds (κ0, (κ1, (κ2, (κ3, (κ4, (κ5, (κ6, tt))))))) a r (zs .1 .0) (zs .1 .1 .0) (zs .1 .1 .1 .0) (zs .1 .1 .1 .1 .0) (zs .1 .1 .1 .1 .1 .0) e) $ move ! (8 ∷ []) $ split ! $ move ! (1 ∷ []) $ split ! $ move ! (1 ∷ []) $ split ! $ move ! (1 ∷ []) $ split ! $ move ! (1 ∷ []) $ split ! $ move ! (1 ∷ []) $ move ! (16 ∷ 0 ∷ []) $ join ! $ move ! (1 ∷ 0 ∷ []) $ join ! $ move ! (1 ∷ 0 ∷ []) $ join ! $ move ! (1 ∷ 0 ∷ []) $ join ! $ move ! (1 ∷ 0 ∷ []) $ join ! $ move ! (1 ∷ 0 ∷ []) $ join ! $ move ! (3 ∷ 0 ∷ []) $ join ! $ frame ! $ feqI ! (List Val) (vptr b o ∷ []) (vptr b o ∷ []) refl $ move ! (0 ∷ 1 ∷ 2 ∷ []) $ fjoin3 ! $ feqI ! (List Val) (vptr bo oo ∷ []) (vptr bo oo ∷ []) refl $ move ! (0 ∷ 7 ∷ 8 ∷ []) $ fjoin3 ! $ nothing ! $ move ! (1 ∷ 0 ∷ []) $ fjoin ! $ owned ! u32 (Is u32) (uint-makes 𝓤 H A W w32) n5 _ (refl, fits5) $ fjoin ! $ move ! (6 ∷ 0 ∷ []) $ fjoin ! $ move ! (5 ∷ 0 ∷ []) $ fjoin ! $ move ! (4 ∷ 0 ∷ []) $ fjoin ! $ move ! (3 ∷ 0 ∷ []) $ fjoin ! $ move ! (2 ∷ 0 ∷ []) $ fjoin ! $ move ! (1 ∷ 0 ∷ []) $ fjoin ! $ frame ! $ owned ! u32 (Is u32) (uint-makes 𝓤 H A W w32) (r .answer) _ fits $ done !
+    exits : (r : Ran) (zs : Lasts) → Said r zs → length (zs .1 .0) ≡ length (x0 .now) → length (zs .1 .1 .0) ≡ length (x1 .now) → length (zs .1 .1 .1 .0) ≡ length (x2 .now) → length (zs .1 .1 .1 .1 .0) ≡ length (x3 .now) → length (zs .1 .1 .1 .1 .1 .0) ≡ length (x4 .now) → length (zs .1 .1 .1 .1 .1 .1 .1 .0) ≡ length (x5 .now) → Is u32 (r .answer) (ansVal (r .answer) ∷ [])
+        → ent 𝓤 (⋆ 𝓤 H A (‵ (fobs γ (T.the-row .coded .code (r .cpu))) ∷ ‵ (fbor κ0 (Body (mem T.the-row) b o γ)) ∷ ‵ (flft κ0 q0) ∷ ‵ (finally u32 (x0 .name) (zs .1 .0)) ∷ ‵ (finally u32 (x1 .name) (zs .1 .1 .0)) ∷ ‵ (finally u64 (x2 .name) (zs .1 .1 .1 .0)) ∷ ‵ (finally u64 (x3 .name) (zs .1 .1 .1 .1 .0)) ∷ ‵ (finally u64 (x4 .name) (zs .1 .1 .1 .1 .1 .0)) ∷ ‵ (finally row (x5 .name) (zs .1 .1 .1 .1 .1 .1 .1 .0)) ∷ (‵ (flft κ1 q1) ⊛ ‵ (flft κ2 q2) ⊛ ‵ (flft κ3 q3) ⊛ ‵ (flft κ4 q4) ⊛ ‵ (flft κ5 q5) ⊛ ‵ (flft κ6 q6) ⊛ ‵ ftrue) ∷ ‵ (fobs γo (u32 .coded .code (r .count))) ∷ ‵ (fbor κ7 (Body (mem u32) bo oo γo)) ∷ ‵ (flft κ7 q7) ∷ [])) (Post (ansVal (r .answer)))
+    exits r zs e len0 len1 len2 len3 len4 len5 fits =
+        qed W (‵ (fobs γ (T.the-row .coded .code (r .cpu))) ∷ ‵ (fbor κ0 (Body (mem T.the-row) b o γ)) ∷ ‵ (flft κ0 q0) ∷ ‵ (finally u32 (x0 .name) (zs .1 .0)) ∷ ‵ (finally u32 (x1 .name) (zs .1 .1 .0)) ∷ ‵ (finally u64 (x2 .name) (zs .1 .1 .1 .0)) ∷ ‵ (finally u64 (x3 .name) (zs .1 .1 .1 .1 .0)) ∷ ‵ (finally u64 (x4 .name) (zs .1 .1 .1 .1 .1 .0)) ∷ ‵ (finally row (x5 .name) (zs .1 .1 .1 .1 .1 .1 .1 .0)) ∷ (‵ (flft κ1 q1) ⊛ ‵ (flft κ2 q2) ⊛ ‵ (flft κ3 q3) ⊛ ‵ (flft κ4 q4) ⊛ ‵ (flft κ5 q5) ⊛ ‵ (flft κ6 q6) ⊛ ‵ ftrue) ∷ ‵ (fobs γo (u32 .coded .code (r .count))) ∷ ‵ (fbor κ7 (Body (mem u32) bo oo γo)) ∷ ‵ (flft κ7 q7) ∷ []) ∵
+        suffices ! _ (ends-at 𝓤 H A ended stayed clauses W (((κ0, (κ1, (κ2, (κ3, (κ4, (κ5, (κ6, (κ7, tt)))))))), (q0, (q1, (q2, (q3, (q4, (q5, (q6, (q7, tt)))))))), tt, a, vals), tt) (ansVal (r .answer)) (r .answer) (r .cpu, (zs .1 .0, (zs .1 .1 .0, (zs .1 .1 .1 .0, (zs .1 .1 .1 .1 .0, (zs .1 .1 .1 .1 .1 .0, (zs .1 .1 .1 .1 .1 .1 .1 .0, (tt, (r .count, tt))))))))) (tt, (len0, (len1, (len2, (len3, (len4, (len5, (tt, (tt, tt)))))))))) $
+        vouched ! (holds (κ0, (κ1, (κ2, (κ3, (κ4, (κ5, (κ6, (κ7, tt)))))))) a r (zs .1 .0) (zs .1 .1 .0) (zs .1 .1 .1 .0) (zs .1 .1 .1 .1 .0) (zs .1 .1 .1 .1 .1 .0) (zs .1 .1 .1 .1 .1 .1 .1 .0) e) $ move ! (9 ∷ []) $ split ! $ move ! (1 ∷ []) $ split ! $ move ! (1 ∷ []) $ split ! $ move ! (1 ∷ []) $ split ! $ move ! (1 ∷ []) $ split ! $ move ! (1 ∷ []) $ split ! $ move ! (1 ∷ []) $ move ! (18 ∷ 0 ∷ []) $ join ! $ move ! (1 ∷ 0 ∷ []) $ join ! $ move ! (1 ∷ 0 ∷ []) $ join ! $ move ! (1 ∷ 0 ∷ []) $ join ! $ move ! (1 ∷ 0 ∷ []) $ join ! $ move ! (1 ∷ 0 ∷ []) $ join ! $ move ! (1 ∷ 0 ∷ []) $ join ! $ move ! (3 ∷ 0 ∷ []) $ join ! $ frame ! $ feqI ! (List Val) (vptr b o ∷ []) (vptr b o ∷ []) refl $ move ! (0 ∷ 1 ∷ 2 ∷ []) $ fjoin3 ! $ feqI ! (List Val) (vptr bo oo ∷ []) (vptr bo oo ∷ []) refl $ move ! (0 ∷ 8 ∷ 9 ∷ []) $ fjoin3 ! $ nothing ! $ move ! (1 ∷ 0 ∷ []) $ fjoin ! $ owned ! u32 (Is u32) (uint-makes 𝓤 H A W w32) n6 _ (refl, fits6) $ fjoin ! $ move ! (7 ∷ 0 ∷ []) $ fjoin ! $ move ! (6 ∷ 0 ∷ []) $ fjoin ! $ move ! (5 ∷ 0 ∷ []) $ fjoin ! $ move ! (4 ∷ 0 ∷ []) $ fjoin ! $ move ! (3 ∷ 0 ∷ []) $ fjoin ! $ move ! (2 ∷ 0 ∷ []) $ fjoin ! $ move ! (1 ∷ 0 ∷ []) $ fjoin ! $ frame ! $ owned ! u32 (Is u32) (uint-makes 𝓤 H A W w32) (r .answer) _ fits $ done !
 
     module _ (callee : Name) (C : Calls 𝓤 H) (Λ : Loops 𝓤 H) (fm : FmC 𝓤 H (W .laws) C) (known : Triple 𝓤 (C callee) Callee) where
-      walk : ent 𝓤 (onEntry 𝓤 H A (ended .signature) (κ0, (κ1, (κ2, (κ3, (κ4, (κ5, (κ6, tt))))))) (q0, (q1, (q2, (q3, (q4, (q5, (q6, tt))))))) a vals) (WpFn 𝓤 H C Λ (function callee) (vptr b o ∷ (spelled x0) ∷ (spelled x1) ∷ (spelled x2) ∷ (spelled x3) ∷ (spelled x4) ∷ vint w32 n5 ∷ vptr bo oo ∷ []) Post)
+      walk : ent 𝓤 (onEntry 𝓤 H A (ended .signature) (κ0, (κ1, (κ2, (κ3, (κ4, (κ5, (κ6, (κ7, tt)))))))) (q0, (q1, (q2, (q3, (q4, (q5, (q6, (q7, tt)))))))) a vals) (WpFn 𝓤 H C Λ (function callee) (vptr b o ∷ (spelled x0) ∷ (spelled x1) ∷ (spelled x2) ∷ (spelled x3) ∷ (spelled x4) ∷ (spelled x5) ∷ vint w32 n6 ∷ vptr bo oo ∷ []) Post)
       walk =
-          qed W ((‵ (flft κ0 q0) ⊛ ‵ (flft κ1 q1) ⊛ ‵ (flft κ2 q2) ⊛ ‵ (flft κ3 q3) ⊛ ‵ (flft κ4 q4) ⊛ ‵ (flft κ5 q5) ⊛ ‵ (flft κ6 q6) ⊛ ‵ ftrue) ∷ ‵ (owns (MutRef (named 0) κ0 T.the-row ∷ MutSlice (named 1) κ1 u32 ∷ MutSlice (named 2) κ2 u32 ∷ MutSlice (named 3) κ3 u64 ∷ MutSlice (named 4) κ4 u64 ∷ MutSlice (named 5) κ5 u64 ∷ u32 ∷ MutRef (named 6) κ6 u32 ∷ []) a vals) ∷ []) ∵
-          enter ! C Λ (function callee) (vptr b o ∷ (spelled x0) ∷ (spelled x1) ∷ (spelled x2) ∷ (spelled x3) ∷ (spelled x4) ∷ vint w32 n5 ∷ vptr bo oo ∷ []) _ $ alloc1 ! (λ l0. alloc1 ! (λ l1. alloc1 ! (λ l2. alloc1 ! (λ l3. alloc1 ! (λ l4. alloc1 ! (λ l5. alloc1 ! (λ l6. alloc1 ! (λ l7. alloc1 ! (λ l8. alloc1 ! (λ l9. alloc1 ! (λ l10. alloc1 ! (λ l11. alloc1 ! (λ l12. alloc1 ! (λ l13. alloc1 ! (λ l14. alloc1 ! (λ l15. alloc1 ! (λ l16. alloc1 ! (λ l17. alloc1 ! (λ l18. alloc1 ! (λ l19. alloc1 ! (λ l20. alloc0 ! $ params1 ! $ pass1 ! (init ! 38 refl (tt, tt)) $ pass1 ! (init ! 36 refl (tt, (tt, (record { fits = room0 .0 }, tt)))) $ pass1 ! (init ! 34 refl (tt, (tt, (record { fits = room1 .0 }, tt)))) $ pass1 ! (init ! 32 refl (tt, (tt, (record { fits = room2 .0 }, tt)))) $ pass1 ! (init ! 30 refl (tt, (tt, (record { fits = room3 .0 }, tt)))) $ pass1 ! (init ! 28 refl (tt, (tt, (record { fits = room4 .0 }, tt)))) $ pass1 ! (init ! 26 refl (tt, record { fits = fits5 })) $ pass1 ! (init ! 24 refl (tt, tt)) $ pass0 ! $ move ! (43 ∷ []) $ fsplit ! $ fsplit3 ! $ drop ! $ move ! (2 ∷ []) $ fsplit ! $ move ! (1 ∷ []) $ fsplit ! $ move ! (1 ∷ []) $ fsplit ! $ move ! (1 ∷ []) $ fsplit ! $ move ! (1 ∷ []) $ fsplit ! $ move ! (1 ∷ []) $ fsplit ! $ drop ! $ move ! (0 ∷ []) $ fsplit ! $ fsplit3 ! $ drop ! $ move ! (52 ∷ []) $ split ! $ move ! (1 ∷ []) $ split ! $ move ! (1 ∷ []) $ split ! $ move ! (1 ∷ []) $ split ! $ move ! (1 ∷ []) $ split ! $ move ! (1 ∷ []) $ split ! $ move ! (1 ∷ []) $ split ! $ move ! (2 ∷ 1 ∷ []) $ join ! $ move ! (2 ∷ 0 ∷ []) $ join ! $ move ! (2 ∷ 0 ∷ []) $ join ! $ move ! (2 ∷ 0 ∷ []) $ join ! $ move ! (2 ∷ 0 ∷ []) $ join ! $ move ! (11 ∷ 12 ∷ 2 ∷ []) $
+          qed W ((‵ (flft κ0 q0) ⊛ ‵ (flft κ1 q1) ⊛ ‵ (flft κ2 q2) ⊛ ‵ (flft κ3 q3) ⊛ ‵ (flft κ4 q4) ⊛ ‵ (flft κ5 q5) ⊛ ‵ (flft κ6 q6) ⊛ ‵ (flft κ7 q7) ⊛ ‵ ftrue) ∷ ‵ (owns (MutRef (named 0) κ0 T.the-row ∷ MutSlice (named 1) κ1 u32 ∷ MutSlice (named 2) κ2 u32 ∷ MutSlice (named 3) κ3 u64 ∷ MutSlice (named 4) κ4 u64 ∷ MutSlice (named 5) κ5 u64 ∷ MutSlice (named 6) κ6 row ∷ u32 ∷ MutRef (named 7) κ7 u32 ∷ []) a vals) ∷ []) ∵
+          enter ! C Λ (function callee) (vptr b o ∷ (spelled x0) ∷ (spelled x1) ∷ (spelled x2) ∷ (spelled x3) ∷ (spelled x4) ∷ (spelled x5) ∷ vint w32 n6 ∷ vptr bo oo ∷ []) _ $ alloc1 ! (λ l0. alloc1 ! (λ l1. alloc1 ! (λ l2. alloc1 ! (λ l3. alloc1 ! (λ l4. alloc1 ! (λ l5. alloc1 ! (λ l6. alloc1 ! (λ l7. alloc1 ! (λ l8. alloc1 ! (λ l9. alloc1 ! (λ l10. alloc1 ! (λ l11. alloc1 ! (λ l12. alloc1 ! (λ l13. alloc1 ! (λ l14. alloc1 ! (λ l15. alloc1 ! (λ l16. alloc1 ! (λ l17. alloc1 ! (λ l18. alloc1 ! (λ l19. alloc1 ! (λ l20. alloc1 ! (λ l21. alloc1 ! (λ l22. alloc1 ! (λ l23. alloc0 ! $ params1 ! $ pass1 ! (init ! 44 refl (tt, tt)) $ pass1 ! (init ! 42 refl (tt, (tt, (record { fits = room0 .0 }, tt)))) $ pass1 ! (init ! 40 refl (tt, (tt, (record { fits = room1 .0 }, tt)))) $ pass1 ! (init ! 38 refl (tt, (tt, (record { fits = room2 .0 }, tt)))) $ pass1 ! (init ! 36 refl (tt, (tt, (record { fits = room3 .0 }, tt)))) $ pass1 ! (init ! 34 refl (tt, (tt, (record { fits = room4 .0 }, tt)))) $ pass1 ! (init ! 32 refl (tt, (tt, (record { fits = room5 .0 }, tt)))) $ pass1 ! (init ! 30 refl (tt, record { fits = fits6 })) $ pass1 ! (init ! 28 refl (tt, tt)) $ pass0 ! $ move ! (49 ∷ []) $ fsplit ! $ fsplit3 ! $ drop ! $ move ! (2 ∷ []) $ fsplit ! $ move ! (1 ∷ []) $ fsplit ! $ move ! (1 ∷ []) $ fsplit ! $ move ! (1 ∷ []) $ fsplit ! $ move ! (1 ∷ []) $ fsplit ! $ move ! (1 ∷ []) $ fsplit ! $ move ! (1 ∷ []) $ fsplit ! $ drop ! $ move ! (0 ∷ []) $ fsplit ! $ fsplit3 ! $ drop ! $ move ! (59 ∷ []) $ split ! $ move ! (1 ∷ []) $ split ! $ move ! (1 ∷ []) $ split ! $ move ! (1 ∷ []) $ split ! $ move ! (1 ∷ []) $ split ! $ move ! (1 ∷ []) $ split ! $ move ! (1 ∷ []) $ split ! $ move ! (1 ∷ []) $ split ! $ move ! (2 ∷ 1 ∷ []) $ join ! $ move ! (2 ∷ 0 ∷ []) $ join ! $ move ! (2 ∷ 0 ∷ []) $ join ! $ move ! (2 ∷ 0 ∷ []) $ join ! $ move ! (2 ∷ 0 ∷ []) $ join ! $ move ! (2 ∷ 0 ∷ []) $ join ! $ move ! (12 ∷ 13 ∷ 2 ∷ []) $
           opens ! tt T.the-row {h = h} b o (λ vs. spelt ! T.the-row (Is T.the-row) (shows 𝓤 H A T.the-row) (LL.vals T.the-type T′.the-laws) (LL.tells T.the-type T′.the-laws) fullShare h vs b o $ move ! (1 ∷ []) $ peeks ! T.the-row (Is T.the-row) (shows 𝓤 H A T.the-row) h (recVal h ∷ []) (λ was. move ! (1 ∷ 0 ∷ []) $
-          -- [cell; own; obor; obs; auth; alive; tok6; obso; boro; owns; own4; own3; own2; own1; own0; _v4; _a4; _v3; _a3; _v2; _a2; _v1; _a1; _v0; _a0; _r; _s; _po; _p5; _p4; _p3; _p2; _p1; _p0; _1; _0]
-          assigns ! (of-opd ! (load ! (from ! (hop ! (look ! 53 refl) (stop !))) (look-raw ! 0 refl))) (from ! (stop !)) (init ! 35 refl (LL.lawful T.the-type T′.the-laws 𝓤 H A W .typed h _ was .0)) $
-          assigns ! (addr ! (from ! (fld ! refl (hop ! (look-in ! 51 (sub ! 0 refl (whole !))) (stop !))))) (from ! (stop !)) (init ! 33 refl (tt, tt)) $
-          assigns ! (agg ! (and-then ! (load ! (from ! (stop !)) (look ! 33 refl)) (and-then ! (load ! (from ! (fld ! refl (stop !))) (look-in ! 51 (sub ! 1 refl (whole !)))) (no-more !)))) (from ! (stop !)) (init ! 31 refl (tt, (tt, (record { fits = room0 .0 }, tt)))) $
-          assigns ! (addr ! (from ! (fld ! refl (hop ! (look-in ! 49 (sub ! 0 refl (whole !))) (stop !))))) (from ! (stop !)) (init ! 29 refl (tt, tt)) $
-          assigns ! (agg ! (and-then ! (load ! (from ! (stop !)) (look ! 29 refl)) (and-then ! (load ! (from ! (fld ! refl (stop !))) (look-in ! 49 (sub ! 1 refl (whole !)))) (no-more !)))) (from ! (stop !)) (init ! 27 refl (tt, (tt, (record { fits = room1 .0 }, tt)))) $
-          assigns ! (addr ! (from ! (fld ! refl (hop ! (look-in ! 47 (sub ! 0 refl (whole !))) (stop !))))) (from ! (stop !)) (init ! 25 refl (tt, tt)) $
-          assigns ! (agg ! (and-then ! (load ! (from ! (stop !)) (look ! 25 refl)) (and-then ! (load ! (from ! (fld ! refl (stop !))) (look-in ! 47 (sub ! 1 refl (whole !)))) (no-more !)))) (from ! (stop !)) (init ! 23 refl (tt, (tt, (record { fits = room2 .0 }, tt)))) $
-          assigns ! (addr ! (from ! (fld ! refl (hop ! (look-in ! 45 (sub ! 0 refl (whole !))) (stop !))))) (from ! (stop !)) (init ! 21 refl (tt, tt)) $
-          assigns ! (agg ! (and-then ! (load ! (from ! (stop !)) (look ! 21 refl)) (and-then ! (load ! (from ! (fld ! refl (stop !))) (look-in ! 45 (sub ! 1 refl (whole !)))) (no-more !)))) (from ! (stop !)) (init ! 19 refl (tt, (tt, (record { fits = room3 .0 }, tt)))) $
-          assigns ! (addr ! (from ! (fld ! refl (hop ! (look-in ! 43 (sub ! 0 refl (whole !))) (stop !))))) (from ! (stop !)) (init ! 17 refl (tt, tt)) $
-          assigns ! (agg ! (and-then ! (load ! (from ! (stop !)) (look ! 17 refl)) (and-then ! (load ! (from ! (fld ! refl (stop !))) (look-in ! 43 (sub ! 1 refl (whole !)))) (no-more !)))) (from ! (stop !)) (init ! 15 refl (tt, (tt, (record { fits = room4 .0 }, tt)))) $ nothing ! $ owned ! u32 (Is u32) (uint-makes 𝓤 H A W w32) n5 _ (refl, fits5) $ fjoin ! $ move ! (11 ∷ 0 ∷ []) $ fjoin ! $ move ! (11 ∷ 0 ∷ []) $ fjoin ! $ move ! (11 ∷ 0 ∷ []) $ fjoin ! $ move ! (11 ∷ 0 ∷ []) $ fjoin ! $ move ! (11 ∷ 0 ∷ []) $ fjoin ! $ owned ! T.the-row (Is T.the-row) (LL.makes T.the-type T′.the-plain 𝓤 H A) h _ was $ fjoin ! $ move ! (6 ∷ 0 ∷ []) $ join ! $ use1 W (raw (Callee .pre to-callee)) goes-callee $
-          calls-at ! fm Callee known to-callee (and-then ! (load ! (from ! (stop !)) (look ! 30 refl)) (and-then ! (load ! (from ! (stop !)) (look ! 26 refl)) (and-then ! (load ! (from ! (stop !)) (look ! 22 refl)) (and-then ! (load ! (from ! (stop !)) (look ! 18 refl)) (and-then ! (load ! (from ! (stop !)) (look ! 14 refl)) (and-then ! (load ! (from ! (stop !)) (look ! 10 refl)) (and-then ! (load ! (from ! (stop !)) (look ! 36 refl)) (no-more !)))))))) (λ v.
-          use1 W (later (some (λ (r : Ran). ((‵ (flft κ1 q1) ⊛ ‵ (flft κ2 q2) ⊛ ‵ (flft κ3 q3) ⊛ ‵ (flft κ4 q4) ⊛ ‵ (flft κ5 q5) ⊛ ‵ ftrue) ⊛ ‵ (S.the-row .own r (v ∷ []))) ⊛ raw (ensured 𝓤 H A beneath beneathClauses (κ1, (κ2, (κ3, (κ4, (κ5, tt))))) passed tt r)))) (id⊢ 𝓤 _) $ await ! tt $ pick ! (λ r.
-          split ! $ move ! (1 ∷ []) $ use1 W (some (λ (zs : Lasts). ‵ (lasts beneath (κ1, (κ2, (κ3, (κ4, (κ5, tt))))) passed zs) ⊛ raw (fact 𝓤 (Said r zs)))) (id⊢ 𝓤 _) $ pick ! (λ zs. split ! $ move ! (1 ∷ []) $ heard ! (Said r zs) (λ e. fsplit ! $ drop ! $
-          move ! (0 ∷ []) $ fsplit ! $ fsplit ! $ move ! (1 ∷ []) $ feqL ! (λ len0. move ! (1 ∷ []) $ fsplit ! $ fsplit ! $ move ! (1 ∷ []) $ feqL ! (λ len1. move ! (1 ∷ []) $ fsplit ! $ fsplit ! $ move ! (1 ∷ []) $ feqL ! (λ len2. move ! (1 ∷ []) $ fsplit ! $ fsplit ! $ move ! (1 ∷ []) $ feqL ! (λ len3. move ! (1 ∷ []) $ fsplit ! $ fsplit ! $ move ! (1 ∷ []) $ feqL ! (λ len4. move ! (1 ∷ []) $ fsplit ! $ drop ! $ move ! (6 ∷ []) $ split ! $ move ! (1 ∷ []) $ peeks ! S.the-row (Is S.the-row) (shows 𝓤 H A S.the-row) r (v ∷ []) (λ is. drop ! $
-          -- [alive; lasts; z4; z3; z2; z1; z0; cell; own; obor; obs; auth; tok6; obso; boro; owns; _v4; _a4; _v3; _a3; _v2; _a2; _v1; _a1; _v0; _a0; _r; _s; _po; _p5; _p4; _p3; _p2; _p1; _p0; _1; _0]
-          land ! (from ! (stop !)) (init ! 38 refl (LL.lawful S.the-type S′.the-laws 𝓤 H A W .typed r _ is .0)) $ rewrite ! 38 (λ (u : Val). ‵ (fat fullShare S′.mir l9 0 u)) (ap only (LL.tells S.the-type S′.the-laws r _ is)) refl $
-          assigns ! (of-opd ! (load ! (from ! (fld ! refl (stop !))) (look-in ! 38 (sub ! 0 refl (whole !))))) (from ! (hop ! (look ! 54 refl) (stop !))) (store-raw ! 7 refl (LL.lawful T.the-type T′.the-laws 𝓤 H A W .typed (r .cpu) _ (LL.owed S.the-type S′.the-laws r _ is .0) .0)) $ move ! (13 ∷ 14 ∷ 12 ∷ []) $
+          -- [cell; own; obor; obs; auth; alive; tok7; obso; boro; owns; own5; own4; own3; own2; own1; own0; _v5; _a5; _v4; _a4; _v3; _a3; _v2; _a2; _v1; _a1; _v0; _a0; _r; _s; _po; _p6; _p5; _p4; _p3; _p2; _p1; _p0; _1; _0]
+          assigns ! (of-opd ! (load ! (from ! (hop ! (look ! 60 refl) (stop !))) (look-raw ! 0 refl))) (from ! (stop !)) (init ! 40 refl (LL.lawful T.the-type T′.the-laws 𝓤 H A W .typed h _ was .0)) $
+          assigns ! (addr ! (from ! (fld ! refl (hop ! (look-in ! 58 (sub ! 0 refl (whole !))) (stop !))))) (from ! (stop !)) (init ! 38 refl (tt, tt)) $
+          assigns ! (agg ! (and-then ! (load ! (from ! (stop !)) (look ! 38 refl)) (and-then ! (load ! (from ! (fld ! refl (stop !))) (look-in ! 58 (sub ! 1 refl (whole !)))) (no-more !)))) (from ! (stop !)) (init ! 36 refl (tt, (tt, (record { fits = room0 .0 }, tt)))) $
+          assigns ! (addr ! (from ! (fld ! refl (hop ! (look-in ! 56 (sub ! 0 refl (whole !))) (stop !))))) (from ! (stop !)) (init ! 34 refl (tt, tt)) $
+          assigns ! (agg ! (and-then ! (load ! (from ! (stop !)) (look ! 34 refl)) (and-then ! (load ! (from ! (fld ! refl (stop !))) (look-in ! 56 (sub ! 1 refl (whole !)))) (no-more !)))) (from ! (stop !)) (init ! 32 refl (tt, (tt, (record { fits = room1 .0 }, tt)))) $
+          assigns ! (addr ! (from ! (fld ! refl (hop ! (look-in ! 54 (sub ! 0 refl (whole !))) (stop !))))) (from ! (stop !)) (init ! 30 refl (tt, tt)) $
+          assigns ! (agg ! (and-then ! (load ! (from ! (stop !)) (look ! 30 refl)) (and-then ! (load ! (from ! (fld ! refl (stop !))) (look-in ! 54 (sub ! 1 refl (whole !)))) (no-more !)))) (from ! (stop !)) (init ! 28 refl (tt, (tt, (record { fits = room2 .0 }, tt)))) $
+          assigns ! (addr ! (from ! (fld ! refl (hop ! (look-in ! 52 (sub ! 0 refl (whole !))) (stop !))))) (from ! (stop !)) (init ! 26 refl (tt, tt)) $
+          assigns ! (agg ! (and-then ! (load ! (from ! (stop !)) (look ! 26 refl)) (and-then ! (load ! (from ! (fld ! refl (stop !))) (look-in ! 52 (sub ! 1 refl (whole !)))) (no-more !)))) (from ! (stop !)) (init ! 24 refl (tt, (tt, (record { fits = room3 .0 }, tt)))) $
+          assigns ! (addr ! (from ! (fld ! refl (hop ! (look-in ! 50 (sub ! 0 refl (whole !))) (stop !))))) (from ! (stop !)) (init ! 22 refl (tt, tt)) $
+          assigns ! (agg ! (and-then ! (load ! (from ! (stop !)) (look ! 22 refl)) (and-then ! (load ! (from ! (fld ! refl (stop !))) (look-in ! 50 (sub ! 1 refl (whole !)))) (no-more !)))) (from ! (stop !)) (init ! 20 refl (tt, (tt, (record { fits = room4 .0 }, tt)))) $
+          assigns ! (addr ! (from ! (fld ! refl (hop ! (look-in ! 48 (sub ! 0 refl (whole !))) (stop !))))) (from ! (stop !)) (init ! 18 refl (tt, tt)) $
+          assigns ! (agg ! (and-then ! (load ! (from ! (stop !)) (look ! 18 refl)) (and-then ! (load ! (from ! (fld ! refl (stop !))) (look-in ! 48 (sub ! 1 refl (whole !)))) (no-more !)))) (from ! (stop !)) (init ! 16 refl (tt, (tt, (record { fits = room5 .0 }, tt)))) $ nothing ! $ move ! (11 ∷ 0 ∷ []) $ fjoin ! $ owned ! u32 (Is u32) (uint-makes 𝓤 H A W w32) n6 _ (refl, fits6) $ fjoin ! $ move ! (11 ∷ 0 ∷ []) $ fjoin ! $ move ! (11 ∷ 0 ∷ []) $ fjoin ! $ move ! (11 ∷ 0 ∷ []) $ fjoin ! $ move ! (11 ∷ 0 ∷ []) $ fjoin ! $ move ! (11 ∷ 0 ∷ []) $ fjoin ! $ owned ! T.the-row (Is T.the-row) (LL.makes T.the-type T′.the-plain 𝓤 H A) h _ was $ fjoin ! $ move ! (6 ∷ 0 ∷ []) $ join ! $ use1 W (raw (Callee .pre to-callee)) goes-callee $
+          calls-at ! fm Callee known to-callee (and-then ! (load ! (from ! (stop !)) (look ! 34 refl)) (and-then ! (load ! (from ! (stop !)) (look ! 30 refl)) (and-then ! (load ! (from ! (stop !)) (look ! 26 refl)) (and-then ! (load ! (from ! (stop !)) (look ! 22 refl)) (and-then ! (load ! (from ! (stop !)) (look ! 18 refl)) (and-then ! (load ! (from ! (stop !)) (look ! 14 refl)) (and-then ! (load ! (from ! (stop !)) (look ! 40 refl)) (and-then ! (load ! (from ! (stop !)) (look ! 10 refl)) (no-more !))))))))) (λ v.
+          use1 W (later (some (λ (r : Ran). ((‵ (flft κ1 q1) ⊛ ‵ (flft κ2 q2) ⊛ ‵ (flft κ3 q3) ⊛ ‵ (flft κ4 q4) ⊛ ‵ (flft κ5 q5) ⊛ ‵ (flft κ6 q6) ⊛ ‵ ftrue) ⊛ ‵ (S.the-row .own r (v ∷ []))) ⊛ raw (ensured 𝓤 H A beneath beneathClauses (κ1, (κ2, (κ3, (κ4, (κ5, (κ6, tt)))))) passed tt r)))) (id⊢ 𝓤 _) $ await ! tt $ pick ! (λ r.
+          split ! $ move ! (1 ∷ []) $ use1 W (some (λ (zs : Lasts). ‵ (lasts beneath (κ1, (κ2, (κ3, (κ4, (κ5, (κ6, tt)))))) passed zs) ⊛ raw (fact 𝓤 (Said r zs)))) (id⊢ 𝓤 _) $ pick ! (λ zs. split ! $ move ! (1 ∷ []) $ heard ! (Said r zs) (λ e. fsplit ! $ drop ! $
+          move ! (0 ∷ []) $ fsplit ! $ fsplit ! $ move ! (1 ∷ []) $ feqL ! (λ len0. move ! (1 ∷ []) $ fsplit ! $ fsplit ! $ move ! (1 ∷ []) $ feqL ! (λ len1. move ! (1 ∷ []) $ fsplit ! $ fsplit ! $ move ! (1 ∷ []) $ feqL ! (λ len2. move ! (1 ∷ []) $ fsplit ! $ fsplit ! $ move ! (1 ∷ []) $ feqL ! (λ len3. move ! (1 ∷ []) $ fsplit ! $ fsplit ! $ move ! (1 ∷ []) $ feqL ! (λ len4. move ! (1 ∷ []) $ fsplit ! $ drop ! $ move ! (0 ∷ []) $ fsplit ! $ fsplit ! $ move ! (1 ∷ []) $ feqL ! (λ len5. move ! (7 ∷ []) $ split ! $ move ! (1 ∷ []) $ peeks ! S.the-row (Is S.the-row) (shows 𝓤 H A S.the-row) r (v ∷ []) (λ is. drop ! $
+          -- [alive; z5; lasts; z4; z3; z2; z1; z0; cell; own; obor; obs; auth; tok7; obso; boro; owns; _v5; _a5; _v4; _a4; _v3; _a3; _v2; _a2; _v1; _a1; _v0; _a0; _r; _s; _po; _p6; _p5; _p4; _p3; _p2; _p1; _p0; _1; _0]
+          land ! (from ! (stop !)) (init ! 43 refl (LL.lawful S.the-type S′.the-laws 𝓤 H A W .typed r _ is .0)) $ rewrite ! 43 (λ (u : Val). ‵ (fat fullShare S′.mir l10 0 u)) (ap only (LL.tells S.the-type S′.the-laws r _ is)) refl $
+          assigns ! (of-opd ! (load ! (from ! (fld ! refl (stop !))) (look-in ! 43 (sub ! 0 refl (whole !))))) (from ! (hop ! (look ! 61 refl) (stop !))) (store-raw ! 8 refl (LL.lawful T.the-type T′.the-laws 𝓤 H A W .typed (r .cpu) _ (LL.owed S.the-type S′.the-laws r _ is .0) .0)) $ move ! (14 ∷ 15 ∷ 13 ∷ []) $
           opens ! tt u32 {h = ho} bo oo (λ vo. tied ! fullShare (u32 .mir) vo bo oo $ move ! (1 ∷ []) $ drop ! $
-          -- [cello; oboro; obso; autho; alive; lasts; z4; z3; z2; z1; z0; cell; own; obor; obs; auth; owns; _v4; _a4; _v3; _a3; _v2; _a2; _v1; _a1; _v0; _a0; _r; _s; _po; _p5; _p4; _p3; _p2; _p1; _p0; _1; _0]
-          assigns ! (of-opd ! (load ! (from ! (fld ! refl (stop !))) (look-in ! 39 (sub ! 2 refl (whole !))))) (from ! (hop ! (look ! 41 refl) (stop !))) (store ! 0 refl (tt, record { fits = (LL.owed S.the-type S′.the-laws r _ is .1 .1 .0) .1 })) $ owned ! u32 (Is u32) (uint-makes 𝓤 H A W w32) (r .count) _ (LL.owed S.the-type S′.the-laws r _ is .1 .1 .0) $ move ! (1 ∷ 0 ∷ 2 ∷ 3 ∷ 4 ∷ []) $ closes ! tt u32 (r .count) (vint w32 (r .count) ∷ []) bo oo $
-          assigns ! (of-opd ! (load ! (from ! (fld ! refl (stop !))) (look-in ! 38 (sub ! 1 refl (whole !))))) (from ! (stop !)) (init ! 56 refl (tt, record { fits = (LL.owed S.the-type S′.the-laws r _ is .1 .0) .1 })) $ move ! (11 ∷ []) $ drop ! $ owned ! T.the-row (Is T.the-row) (LL.makes T.the-type T′.the-plain 𝓤 H A) (r .cpu) _ (LL.owed S.the-type S′.the-laws r _ is .0) $ move ! (11 ∷ 0 ∷ 12 ∷ 13 ∷ 14 ∷ []) $ closes ! tt T.the-row (r .cpu) (recVal (r .cpu) ∷ []) b o $
-          returns ! (look ! 54 refl) $ forget ! 14 refl $ forget ! 16 refl $ forget ! 18 refl $ forget ! 20 refl $ forget ! 22 refl $ forget ! 24 refl $ forget ! 26 refl $ forget ! 28 refl $ forget ! 30 refl $ forget ! 32 refl $ forget ! 34 refl $ forget ! 36 refl $ forget ! 38 refl $ forget ! 40 refl $ forget ! 42 refl $ forget ! 44 refl $ forget ! 46 refl $ forget ! 48 refl $ forget ! 50 refl $ forget ! 52 refl $ forget ! 54 refl $ move ! (54 ∷ 55 ∷ []) $ free1 ! $ move ! (52 ∷ 53 ∷ []) $ free1 ! $ move ! (50 ∷ 51 ∷ []) $ free1 ! $ move ! (48 ∷ 49 ∷ []) $ free1 ! $ move ! (46 ∷ 47 ∷ []) $ free1 ! $ move ! (44 ∷ 45 ∷ []) $ free1 ! $ move ! (42 ∷ 43 ∷ []) $ free1 ! $ move ! (40 ∷ 41 ∷ []) $ free1 ! $ move ! (38 ∷ 39 ∷ []) $ free1 ! $ move ! (36 ∷ 37 ∷ []) $ free1 ! $ move ! (34 ∷ 35 ∷ []) $ free1 ! $ move ! (32 ∷ 33 ∷ []) $ free1 ! $ move ! (30 ∷ 31 ∷ []) $ free1 ! $ move ! (28 ∷ 29 ∷ []) $ free1 ! $ move ! (26 ∷ 27 ∷ []) $ free1 ! $ move ! (24 ∷ 25 ∷ []) $ free1 ! $ move ! (22 ∷ 23 ∷ []) $ free1 ! $ move ! (20 ∷ 21 ∷ []) $ free1 ! $ move ! (18 ∷ 19 ∷ []) $ free1 ! $ move ! (16 ∷ 17 ∷ []) $ free1 ! $ move ! (14 ∷ 15 ∷ []) $ free1 ! $ free0 ! $ keep ! (0 ∷ 1 ∷ 2 ∷ 12 ∷ 11 ∷ 10 ∷ 9 ∷ 8 ∷ 6 ∷ 3 ∷ 4 ∷ 5 ∷ []) $ by ! (exits r zs e len0 len1 len2 len3 len4 (LL.owed S.the-type S′.the-laws r _ is .1 .0))))))))))))))))))))))))))))))))))))
+          -- [cello; oboro; obso; autho; alive; z5; lasts; z4; z3; z2; z1; z0; cell; own; obor; obs; auth; owns; _v5; _a5; _v4; _a4; _v3; _a3; _v2; _a2; _v1; _a1; _v0; _a0; _r; _s; _po; _p6; _p5; _p4; _p3; _p2; _p1; _p0; _1; _0]
+          assigns ! (of-opd ! (load ! (from ! (fld ! refl (stop !))) (look-in ! 44 (sub ! 2 refl (whole !))))) (from ! (hop ! (look ! 46 refl) (stop !))) (store ! 0 refl (tt, record { fits = (LL.owed S.the-type S′.the-laws r _ is .1 .1 .0) .1 })) $ owned ! u32 (Is u32) (uint-makes 𝓤 H A W w32) (r .count) _ (LL.owed S.the-type S′.the-laws r _ is .1 .1 .0) $ move ! (1 ∷ 0 ∷ 2 ∷ 3 ∷ 4 ∷ []) $ closes ! tt u32 (r .count) (vint w32 (r .count) ∷ []) bo oo $
+          assigns ! (of-opd ! (load ! (from ! (fld ! refl (stop !))) (look-in ! 43 (sub ! 1 refl (whole !))))) (from ! (stop !)) (init ! 63 refl (tt, record { fits = (LL.owed S.the-type S′.the-laws r _ is .1 .0) .1 })) $ move ! (12 ∷ []) $ drop ! $ owned ! T.the-row (Is T.the-row) (LL.makes T.the-type T′.the-plain 𝓤 H A) (r .cpu) _ (LL.owed S.the-type S′.the-laws r _ is .0) $ move ! (12 ∷ 0 ∷ 13 ∷ 14 ∷ 15 ∷ []) $ closes ! tt T.the-row (r .cpu) (recVal (r .cpu) ∷ []) b o $
+          returns ! (look ! 61 refl) $ forget ! 15 refl $ forget ! 17 refl $ forget ! 19 refl $ forget ! 21 refl $ forget ! 23 refl $ forget ! 25 refl $ forget ! 27 refl $ forget ! 29 refl $ forget ! 31 refl $ forget ! 33 refl $ forget ! 35 refl $ forget ! 37 refl $ forget ! 39 refl $ forget ! 41 refl $ forget ! 43 refl $ forget ! 45 refl $ forget ! 47 refl $ forget ! 49 refl $ forget ! 51 refl $ forget ! 53 refl $ forget ! 55 refl $ forget ! 57 refl $ forget ! 59 refl $ forget ! 61 refl $ move ! (61 ∷ 62 ∷ []) $ free1 ! $ move ! (59 ∷ 60 ∷ []) $ free1 ! $ move ! (57 ∷ 58 ∷ []) $ free1 ! $ move ! (55 ∷ 56 ∷ []) $ free1 ! $ move ! (53 ∷ 54 ∷ []) $ free1 ! $ move ! (51 ∷ 52 ∷ []) $ free1 ! $ move ! (49 ∷ 50 ∷ []) $ free1 ! $ move ! (47 ∷ 48 ∷ []) $ free1 ! $ move ! (45 ∷ 46 ∷ []) $ free1 ! $ move ! (43 ∷ 44 ∷ []) $ free1 ! $ move ! (41 ∷ 42 ∷ []) $ free1 ! $ move ! (39 ∷ 40 ∷ []) $ free1 ! $ move ! (37 ∷ 38 ∷ []) $ free1 ! $ move ! (35 ∷ 36 ∷ []) $ free1 ! $ move ! (33 ∷ 34 ∷ []) $ free1 ! $ move ! (31 ∷ 32 ∷ []) $ free1 ! $ move ! (29 ∷ 30 ∷ []) $ free1 ! $ move ! (27 ∷ 28 ∷ []) $ free1 ! $ move ! (25 ∷ 26 ∷ []) $ free1 ! $ move ! (23 ∷ 24 ∷ []) $ free1 ! $ move ! (21 ∷ 22 ∷ []) $ free1 ! $ move ! (19 ∷ 20 ∷ []) $ free1 ! $ move ! (17 ∷ 18 ∷ []) $ free1 ! $ move ! (15 ∷ 16 ∷ []) $ free1 ! $ free0 ! $ keep ! (0 ∷ 1 ∷ 2 ∷ 13 ∷ 12 ∷ 11 ∷ 10 ∷ 9 ∷ 7 ∷ 6 ∷ 3 ∷ 4 ∷ 5 ∷ []) $ by ! (exits r zs e len0 len1 len2 len3 len4 len5 (LL.owed S.the-type S′.the-laws r _ is .1 .0))))))))))))))))))))))))))))))))))))))))
 
   module _ (W : Given 𝓤 H A) (callee : Name) where
     walks : (C : Calls 𝓤 H) (Λ : Loops 𝓤 H) → FmC 𝓤 H (W .laws) C → Triple 𝓤 (C callee) Callee → Walks 𝓤 H A ended stayed (WpFn 𝓤 H C Λ (function callee)) clauses
-    walks C Λ fm known = walked 𝓤 H A ended stayed clauses (WpFn 𝓤 H C Λ (function callee)) (λ κs. (ptr-vals, (slice-vals, (slice-vals, (slice-vals, (slice-vals, (slice-vals, (uint-vals w32, (ptr-vals, tt)))))))))
-        (λ κs. (mut-tells (named 0) (κs .0) T.the-row, (mut-slice-tells (named 1) (κs .1 .0) u32, (mut-slice-tells (named 2) (κs .1 .1 .0) u32, (mut-slice-tells (named 3) (κs .1 .1 .1 .0) u64, (mut-slice-tells (named 4) (κs .1 .1 .1 .1 .0) u64, (mut-slice-tells (named 5) (κs .1 .1 .1 .1 .1 .0) u64, (uint-tells w32, (mut-tells (named 6) (κs .1 .1 .1 .1 .1 .1 .0) u32, tt)))))))))
-        (λ κs qs bounds a _ are. via 𝓤 _ (fst∗ 𝓤 _ (emp 𝓤)) (walk W (κs .0) (qs .0) (a .0 .ptr .0) (a .0 .ptr .1) (a .0 .name) (a .0 .now) (κs .1 .0) (qs .1 .0) (a .1 .0) (are .1 .0 .0 .1) (κs .1 .1 .0) (qs .1 .1 .0) (a .1 .1 .0) (are .1 .1 .0 .0 .1) (κs .1 .1 .1 .0) (qs .1 .1 .1 .0) (a .1 .1 .1 .0) (are .1 .1 .1 .0 .0 .1) (κs .1 .1 .1 .1 .0) (qs .1 .1 .1 .1 .0) (a .1 .1 .1 .1 .0) (are .1 .1 .1 .1 .0 .0 .1) (κs .1 .1 .1 .1 .1 .0) (qs .1 .1 .1 .1 .1 .0) (a .1 .1 .1 .1 .1 .0) (are .1 .1 .1 .1 .1 .0 .0 .1) (a .1 .1 .1 .1 .1 .1 .0) (are .1 .1 .1 .1 .1 .1 .0 .1) (κs .1 .1 .1 .1 .1 .1 .0) (qs .1 .1 .1 .1 .1 .1 .0) (a .1 .1 .1 .1 .1 .1 .1 .0 .ptr .0) (a .1 .1 .1 .1 .1 .1 .1 .0 .ptr .1) (a .1 .1 .1 .1 .1 .1 .1 .0 .name) (a .1 .1 .1 .1 .1 .1 .1 .0 .now) callee C Λ fm known))
+    walks C Λ fm known = walked 𝓤 H A ended stayed clauses (WpFn 𝓤 H C Λ (function callee)) (λ κs. (ptr-vals, (slice-vals, (slice-vals, (slice-vals, (slice-vals, (slice-vals, (slice-vals, (uint-vals w32, (ptr-vals, tt))))))))))
+        (λ κs. (mut-tells (named 0) (κs .0) T.the-row, (mut-slice-tells (named 1) (κs .1 .0) u32, (mut-slice-tells (named 2) (κs .1 .1 .0) u32, (mut-slice-tells (named 3) (κs .1 .1 .1 .0) u64, (mut-slice-tells (named 4) (κs .1 .1 .1 .1 .0) u64, (mut-slice-tells (named 5) (κs .1 .1 .1 .1 .1 .0) u64, (mut-slice-tells (named 6) (κs .1 .1 .1 .1 .1 .1 .0) row, (uint-tells w32, (mut-tells (named 7) (κs .1 .1 .1 .1 .1 .1 .1 .0) u32, tt))))))))))
+        (λ κs qs bounds a _ are. via 𝓤 _ (fst∗ 𝓤 _ (emp 𝓤)) (walk W (κs .0) (qs .0) (a .0 .ptr .0) (a .0 .ptr .1) (a .0 .name) (a .0 .now) (κs .1 .0) (qs .1 .0) (a .1 .0) (are .1 .0 .0 .1) (κs .1 .1 .0) (qs .1 .1 .0) (a .1 .1 .0) (are .1 .1 .0 .0 .1) (κs .1 .1 .1 .0) (qs .1 .1 .1 .0) (a .1 .1 .1 .0) (are .1 .1 .1 .0 .0 .1) (κs .1 .1 .1 .1 .0) (qs .1 .1 .1 .1 .0) (a .1 .1 .1 .1 .0) (are .1 .1 .1 .1 .0 .0 .1) (κs .1 .1 .1 .1 .1 .0) (qs .1 .1 .1 .1 .1 .0) (a .1 .1 .1 .1 .1 .0) (are .1 .1 .1 .1 .1 .0 .0 .1) (κs .1 .1 .1 .1 .1 .1 .0) (qs .1 .1 .1 .1 .1 .1 .0) (a .1 .1 .1 .1 .1 .1 .0) (are .1 .1 .1 .1 .1 .1 .0 .0 .1) (a .1 .1 .1 .1 .1 .1 .1 .0) (are .1 .1 .1 .1 .1 .1 .1 .0 .1) (κs .1 .1 .1 .1 .1 .1 .1 .0) (qs .1 .1 .1 .1 .1 .1 .1 .0) (a .1 .1 .1 .1 .1 .1 .1 .1 .0 .ptr .0) (a .1 .1 .1 .1 .1 .1 .1 .1 .0 .ptr .1) (a .1 .1 .1 .1 .1 .1 .1 .1 .0 .name) (a .1 .1 .1 .1 .1 .1 .1 .1 .0 .now) callee C Λ fm known))
 
     pub meets : (𝓣 : Tables 𝓤 H) → Triple 𝓤 (𝓣 .C callee) Callee
         → Meets 𝓤 H A (ended .signature) (WpFn 𝓤 H (𝓣 .C) (𝓣 .Λ) (function callee)) (closing 𝓤 H A ended clauses)
-    meets 𝓣 known = walk-meets 𝓤 H A ended stayed W (goes-ref 𝓤 H A W 7 0 tt (plain (λ _. T.the-row)), (goes-gave-slice 𝓤 H A W 7 1 tt (plain (λ _. u32)), (goes-gave-slice 𝓤 H A W 7 2 tt (plain (λ _. u32)), (goes-gave-slice 𝓤 H A W 7 3 tt (plain (λ _. u64)), (goes-gave-slice 𝓤 H A W 7 4 tt (plain (λ _. u64)), (goes-gave-slice 𝓤 H A W 7 5 tt (plain (λ _. u64)), (goes-none 𝓤 H A W 7 (λ _. u32) yes (λ κs x f. refl), (goes-ref 𝓤 H A W 7 6 tt (plain (λ _. u32)), tt)))))))) clauses
+    meets 𝓣 known = walk-meets 𝓤 H A ended stayed W (goes-ref 𝓤 H A W 8 0 tt (plain (λ _. T.the-row)), (goes-gave-slice 𝓤 H A W 8 1 tt (plain (λ _. u32)), (goes-gave-slice 𝓤 H A W 8 2 tt (plain (λ _. u32)), (goes-gave-slice 𝓤 H A W 8 3 tt (plain (λ _. u64)), (goes-gave-slice 𝓤 H A W 8 4 tt (plain (λ _. u64)), (goes-gave-slice 𝓤 H A W 8 5 tt (plain (λ _. u64)), (goes-gave-slice 𝓤 H A W 8 6 tt (plain (λ _. row)), (goes-none 𝓤 H A W 8 (λ _. u32) yes (λ κs x f. refl), (goes-ref 𝓤 H A W 8 7 tt (plain (λ _. u32)), tt))))))))) clauses
         (WpFn 𝓤 H (𝓣 .C) (𝓣 .Λ) (function callee)) (WpFn-mono 𝓤 H (W .laws) 𝓣 (function callee)) (walks (𝓣 .C) (𝓣 .Λ) (fmOf 𝓤 H (W .laws) 𝓣) known)

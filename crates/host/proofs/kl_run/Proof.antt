@@ -1,16 +1,17 @@
--- `kl_run` promises what `run` promises, of the record lent.
+-- `kl_run` promises what `run_rows` promises, of the record lent.
 use mathlib.Core.Path.{_≡_}
 use base.Logic.{emp}
 use contract.Monad.{factI}
 use contract.Running.{givenOf, tables, tablesOf}
 use denote.Triple.Spec.{tripleOf}
 use denote.Triple.Table.{entered, cited}
-use Rattle.rules.specs.Run.{run}
-use Rattle.machine.specs.Views.{stateOf, ranOf}
+use Rattle.rules.specs.Rows.{lentRun}
+use Rattle.rows.specs.Views.{table}
+use Rattle.machine.specs.Views.{stateOf, ranWith}
 use Rattle.walks.proofs.Running.{meets}
-use Rattle.machine.proofs.Processor.run as beneath
-use Rattle.machine.proofs.Processor.run.Symbol.{name, routine}
-use Rattle.machine.proofs.Processor.run.Met.{met}
+use Rattle.machine.proofs.Processor.run_rows as beneath
+use Rattle.machine.proofs.Processor.run_rows.Symbol.{name, routine}
+use Rattle.machine.proofs.Processor.run_rows.Met.{met}
 use Rattle.host.proofs.kl_run as f
 use Rattle.host.proofs.kl_run.Key as key
 use Rattle.host.proofs.kl_run.Statement.{statement}
@@ -20,7 +21,7 @@ pub kl-run-spec : {M : Type 1} → statement M
 unfolding code.routine tablesOf
 kl-run-spec 𝓤 H 𝓜 𝓖 𝓡 =
     entered 𝓤 H (tripleOf 𝓤 H (𝓖 .A) f.signature (f.spec 𝓤 H (𝓖 .A) (𝓜 .mem) (𝓡 .run))) (tables 𝓤 H 𝓜 𝓡 code.env .C) (tables 𝓤 H 𝓜 𝓡 code.env .Λ) key.name code.function (code.unfolded 𝓤 H 𝓜 𝓡)
-    (meets (λ cpu words owners jumpers writers readers budget r words′ owners′ jumpers′ writers′ readers′. ranOf r words′ owners′ jumpers′ writers′ readers′ ≡ run budget (stateOf cpu words owners jumpers writers readers)) 𝓤 H (𝓖 .A)
-    (λ κs a. f.clauses 𝓤 H (𝓖 .A) (𝓜 .mem) (𝓡 .run) κs a .ensures tt) (λ κs a r words owners jumpers writers readers h. factI 𝓤 _ (emp 𝓤) h)
+    (meets (λ cpu words owners jumpers writers readers budget rows r words′ owners′ jumpers′ writers′ readers′ rows′. ranWith r words′ owners′ jumpers′ writers′ readers′ rows′ ≡ lentRun budget (stateOf cpu words owners jumpers writers readers) (table rows)) 𝓤 H (𝓖 .A)
+    (λ κs a. f.clauses 𝓤 H (𝓖 .A) (𝓜 .mem) (𝓡 .run) κs a .ensures tt) (λ κs a r words owners jumpers writers readers rows h. factI 𝓤 _ (emp 𝓤) h)
     (givenOf 𝓤 H 𝓜 𝓖) name (tablesOf 𝓤 H 𝓜 (tables 𝓤 H 𝓜 𝓡 code.env))
-    (cited 𝓤 H (tripleOf 𝓤 H (𝓖 .A) beneath.signature (beneath.spec 𝓤 H (𝓖 .A) (𝓜 .mem) (𝓡 .run))) 𝓜 𝓡 code.env name routine code.calls-machine·Processor·run (met 𝓤 H 𝓜 𝓖 𝓡)))
+    (cited 𝓤 H (tripleOf 𝓤 H (𝓖 .A) beneath.signature (beneath.spec 𝓤 H (𝓖 .A) (𝓜 .mem) (𝓡 .run))) 𝓜 𝓡 code.env name routine code.calls-machine·Processor·run-rows (met 𝓤 H 𝓜 𝓖 𝓡)))
