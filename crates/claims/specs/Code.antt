@@ -26,7 +26,7 @@ use Rattle.host.proofs.kl_decode.Reads as kl-decode
 use Rattle.host.proofs.kl_encode.Reads as kl-encode
 use Rattle.host.proofs.kl_write.Reads as kl-write
 use Rattle.claims.specs.Contracts.{Promise, Allows, allowed}
-use Rattle.claims.specs.HostContracts as kl
+use Rattle.claims.specs.Lending as lending
 use Rattle.claims.specs.Memories.{over, memories}
 
 -- what the contracts of load, check, step, run, decode, encode and write allow, and that each such outcome is what the rules say; a step is seen
@@ -118,16 +118,7 @@ by-write =
       says = λ κs a r s h. h;
     }
 
--- ---- for C: kl_load, kl_check, kl_step, kl_run, kl_decode, kl_encode, kl_write
-
-abbrev pub by-kl-load : Promise kl.load (Bool × List ℕ × State) images.Loaded
-by-kl-load =
-    record {
-      given = λ κs a. (a .1 .0, a .1 .1 .0 .now, memories (a .1 .1 .1));
-      left = λ κs r s. record { answer = r; state = over (s .0 .now) (s .1 .1 .1) };
-      meant = λ i. images.load (i .0) (i .1) (i .2);
-      says = λ κs a r s h. h;
-    }
+-- ---- for C: kl_check, kl_decode, kl_encode, kl_write; kl_load, kl_step and kl_run stand in Lending
 
 abbrev pub by-kl-check : Promise kl-check.Post (List ℕ) images.Checked
 by-kl-check =
@@ -135,24 +126,6 @@ by-kl-check =
       given = λ κs a. a .0 .now;
       left = λ κs r s. record { answer = r; size = s .1 .0 .now };
       meant = images.check;
-      says = λ κs a r s h. h;
-    }
-
-abbrev pub by-kl-step : Promise kl.step State Ran
-by-kl-step =
-    record {
-      given = λ κs a. over (a .0 .now) (a .1);
-      left = λ κs r s. oneStep (record { answer = r; state = over (s .0 .now) (s .1) });
-      meant = run 1;
-      says = λ κs a r s h. ap oneStep h ∙ run-one _;
-    }
-
-abbrev pub by-kl-run : Promise kl.run (ℕ × State) Ran
-by-kl-run =
-    record {
-      given = λ κs a. (a .1 .1 .1 .1 .1 .1 .0, over (a .0 .now) (a .1));
-      left = λ κs r s. record { answer = r; state = over (s .0 .now) (s .1); count = s .1 .1 .1 .1 .1 .1 .1 .0 .now };
-      meant = λ i. run (i .0) (i .1);
       says = λ κs a r s h. h;
     }
 
@@ -187,7 +160,7 @@ by-kl-write =
       says = λ κs a r s h. h;
     }
 
--- ---- the two ways to call the code
+-- ---- the ways to call the code: by value, by value with a table, and for C. A table has 64 rows, whatever they hold, each time
 
 abbrev pub by-value : Code
 by-value =
@@ -208,20 +181,39 @@ by-value =
       writes = λ ws regs entry out. allowed write.Post by-write (ws, regs, entry, out);
     }
 
+abbrev pub with-rows : Code
+with-rows =
+    record {
+      Loads = lending.Loads lending.by-value;
+      Checks = by-value .Checks;
+      Steps = lending.Steps lending.by-value;
+      Runs = lending.Runs lending.by-value;
+      Decodes = by-value .Decodes;
+      Encodes = by-value .Encodes;
+      Writes = by-value .Writes;
+      loads = lending.loads lending.by-value;
+      checks = by-value .checks;
+      steps = lending.steps lending.by-value;
+      runs = lending.runs lending.by-value;
+      decodes = by-value .decodes;
+      encodes = by-value .encodes;
+      writes = by-value .writes;
+    }
+
 abbrev pub for-C : Code
 for-C =
     record {
-      Loads = λ m bytes old. Allows kl.load by-kl-load (m, bytes, old);
+      Loads = lending.Loads lending.for-C;
       Checks = Allows kl-check.Post by-kl-check;
-      Steps = Allows kl.step by-kl-step;
-      Runs = λ budget s. Allows kl.run by-kl-run (budget, s);
+      Steps = lending.Steps lending.for-C;
+      Runs = lending.Runs lending.for-C;
       Decodes = Allows kl-decode.Post by-kl-decode;
       Encodes = λ op a b low. Allows kl-encode.Post by-kl-encode (op, a, b, low);
       Writes = λ ws regs entry out. Allows kl-write.Post by-kl-write (ws, regs, entry, out);
-      loads = λ m bytes old. allowed kl.load by-kl-load (m, bytes, old);
+      loads = lending.loads lending.for-C;
       checks = allowed kl-check.Post by-kl-check;
-      steps = allowed kl.step by-kl-step;
-      runs = λ budget s. allowed kl.run by-kl-run (budget, s);
+      steps = lending.steps lending.for-C;
+      runs = lending.runs lending.for-C;
       decodes = allowed kl-decode.Post by-kl-decode;
       encodes = λ op a b low. allowed kl-encode.Post by-kl-encode (op, a, b, low);
       writes = λ ws regs entry out. allowed kl-write.Post by-kl-write (ws, regs, entry, out);

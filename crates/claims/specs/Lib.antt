@@ -7,6 +7,7 @@ pub mod Sources
 pub mod Contracts
 pub mod HostContracts
 pub mod Memories
+pub mod Lending
 pub mod Code
 pub mod Sessions
 pub mod CodeRefusals
@@ -19,6 +20,7 @@ pub mod CodeCounts
 pub mod CodeWhy
 pub mod CodePrinted
 pub mod Rows
+pub mod CodeRows
 pub mod CodeSheets
 pub mod Checking
 pub mod Once

@@ -1,4 +1,4 @@
--- Request 2026-08, rows kept ready: demand 3 for steps that are lent 64 rows, the rows from an accepted image, and the same of the code's calls that take a table.
+-- Request 2026-08, rows kept ready: demand 3 for steps that are lent 64 rows, the rows from an accepted image. Of the rules; of the code in CodeRows.
 use mathlib.Core.Path.{_≡_, sym, ap, _∙_, subst}
 use mathlib.Core.Bool.{Bool}
 use mathlib.Core.List.{List}
@@ -10,19 +10,12 @@ use Rattle.rules.specs.Compartments.{numbers}
 use Rattle.rules.specs.State.{State}
 use Rattle.rules.specs.Run.{Ran}
 use Rattle.rules.specs.Images.{load, sizeIn}
-use Rattle.rules.specs.Rows.{Row, noRow, ownedBelow, freshRows, LentStepped, lentStep, LentRan, lentRun, lentLoad}
+use Rattle.rules.specs.Rows.{Row, noRow, ownedBelow, freshRows, LentStepped, LentRan, lentRun, lentLoad}
 use Rattle.rules.specs.Laws.RowLaws.{length-rows}
 use Rattle.rules.specs.Theorems.Rows.{told, Right, lent-load, same-run}
 use Rattle.rules.specs.BothMachines.Runs.{Together}
 use Rattle.rules.specs.BothMachines.Agreement as agreed
 use Rattle.rules.specs.BothMachines.LoadedRows as loaded
-use Rattle.rows.specs.Views.{table}
-use Rattle.machine.proofs.Processor.step_rows.Reads as step-rows
-use Rattle.machine.proofs.Processor.run_rows.Reads as run-rows
-use Rattle.loader.proofs.load_rows.Reads as load-rows
-use Rattle.claims.specs.Memories.{over, memories}
-
--- ---- of the rules
 
 module _ (m : Bool) (bytes : List ℕ) (old : State) (rows : List Row) (all : length rows ≡ numbers) (ok : lentLoad m bytes old rows .answer ≡ answer.done) where
   -- n steps, lent the memories and the rows that the load was lent
@@ -54,17 +47,3 @@ module _ (m : Bool) (bytes : List ℕ) (old : State) (rows : List Row) (all : le
   -- "From a loaded image the owned counts below next sum to N plus the number of services"
   pub owned-sum : (n : ℕ) → ownedBelow (agreed.tagged m n bytes old .state .cpu .next) (after n .rows) ≡ sizeIn bytes + serviceCount m
   owned-sum n = subst (λ (r : LentRan). ownedBelow (agreed.tagged m n bytes old .state .cpu .next) (r .rows) ≡ sizeIn bytes + serviceCount m) (sym (is-after n)) (loaded.owned-adds-up m bytes old rows all accepted n)
-
--- ---- of the code: what the contracts of load_rows, step_rows and run_rows allow is what the rules say
-
-pub code-load-rows : (κs : _) (a : _) (r : _) (s : _) → load-rows.Post κs a r s
-    → record { answer = r .answer; state = over (r .cpu) (s .1 .1); rows = table (s .1 .1 .1 .1 .1 .1 .1 .0 .now) } ≡ lentLoad (a .0) (a .1 .0 .now) (memories (a .1 .1)) (table (a .1 .1 .1 .1 .1 .1 .1 .0 .now))
-code-load-rows κs a r s h = h
-
-pub code-step-rows : (κs : _) (a : _) (r : _) (s : _) → step-rows.Post κs a r s
-    → record { answer = r .answer; state = over (r .cpu) (s .1); rows = table (s .1 .1 .1 .1 .1 .1 .0 .now) } ≡ lentStep (over (a .0) (a .1)) (table (a .1 .1 .1 .1 .1 .1 .0 .now))
-code-step-rows κs a r s h = h
-
-pub code-run-rows : (κs : _) (a : _) (r : _) (s : _) → run-rows.Post κs a r s
-    → record { answer = r .answer; state = over (r .cpu) (s .1); rows = table (s .1 .1 .1 .1 .1 .1 .1 .0 .now); count = r .count } ≡ lentRun (a .1 .1 .1 .1 .1 .1 .0) (over (a .0) (a .1)) (table (a .1 .1 .1 .1 .1 .1 .1 .0 .now))
-code-run-rows κs a r s h = h

@@ -2,11 +2,11 @@
 use mathlib.Core.List.{List}
 use Prim.Native.Nat.{ℕ}
 use Rattle.common.specs.Words as words
-use Rattle.rules.specs.Step as rules
-use Rattle.rules.specs.Run as rules-run
 use Rattle.rules.specs.Images as images
+use Rattle.rules.specs.Rows.{Row, LentStepped, LentRan}
 use Rattle.sources.specs.Meaning as sources
 use Rattle.hex.specs.Importing as hex
+use Rattle.rows.specs.Views.{table}
 use Rattle.machine.specs.declared.Processor.{Processor}
 use Rattle.machine.specs.Views.{processorOf}
 use Rattle.host.specs.Views.{DecodeOutcome, WhyOutcome}
@@ -30,16 +30,16 @@ use Rattle.claims.specs.Contracts.{Once, same, same-by}
 use Rattle.claims.specs.HostContracts as kl
 use Rattle.claims.specs.Memories.{Lists, lists, listsOf}
 
--- kl_load, kl_step, kl_run, with the record and the five memories, and for kl_run the count
+-- kl_load, kl_step, kl_run, with the record, the five memories and the rows, seen as the rules', and for kl_run the count
 
-pub kl-load-once : Once kl.load {Out = ℕ × Processor × Lists} (λ κs r s. (r, s .0 .now, lists (s .1 .1 .1)))
-kl-load-once κs a r q s t = same-by (λ (m : images.Loaded). (m .answer, processorOf (m .state .cpu), listsOf (m .state)))
+pub kl-load-once : Once kl.load {Out = ℕ × Processor × Lists × List Row} (λ κs r s. (r, s .0 .now, lists (s .1 .1 .1), table (s .1 .1 .1 .1 .1 .1 .1 .1 .0 .now)))
+kl-load-once κs a r q s t = same-by (λ (m : LentStepped). (m .answer, processorOf (m .state .cpu), listsOf (m .state), m .rows))
 
-pub kl-step-once : Once kl.step {Out = ℕ × Processor × Lists} (λ κs r s. (r, s .0 .now, lists (s .1)))
-kl-step-once κs a r q s t = same-by (λ (m : rules.Stepped). (m .answer, processorOf (m .state .cpu), listsOf (m .state)))
+pub kl-step-once : Once kl.step {Out = ℕ × Processor × Lists × List Row} (λ κs r s. (r, s .0 .now, lists (s .1), table (s .1 .1 .1 .1 .1 .1 .0 .now)))
+kl-step-once κs a r q s t = same-by (λ (m : LentStepped). (m .answer, processorOf (m .state .cpu), listsOf (m .state), m .rows))
 
-pub kl-run-once : Once kl.run {Out = ℕ × Processor × Lists × ℕ} (λ κs r s. (r, s .0 .now, lists (s .1), s .1 .1 .1 .1 .1 .1 .1 .0 .now))
-kl-run-once κs a r q s t = same-by (λ (m : rules-run.Ran). (m .answer, processorOf (m .state .cpu), listsOf (m .state), m .count))
+pub kl-run-once : Once kl.run {Out = ℕ × Processor × Lists × List Row × ℕ} (λ κs r s. (r, s .0 .now, lists (s .1), table (s .1 .1 .1 .1 .1 .1 .0 .now), s .1 .1 .1 .1 .1 .1 .1 .1 .0 .now))
+kl-run-once κs a r q s t = same-by (λ (m : LentRan). (m .answer, processorOf (m .state .cpu), listsOf (m .state), m .rows, m .count))
 
 -- kl_check, with N
 
