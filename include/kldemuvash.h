@@ -1,11 +1,12 @@
 /* The C interface of the verified library (target/staticlib/libhost.a, made by `rt staticlib host`).
 
-   A host keeps one kl_processor and five memories, and lends them to each call:
+   A host keeps one kl_processor, five memories and a table of rows, and lends them to each call:
      words    one 32-bit word per place
      owners   the compartment number that owns the place
      jumpers  the set I of the place, a bit per compartment: who may arrive there by a jump
      writers  the set W of the place, a bit per compartment: who may store there
      readers  the set R of the place, a bit per compartment: who may load from there, in strict mode
+     rows     a row per compartment, KL_ROWS of them: how many addresses it owns, may jump to and may store to
    Memory is the places 0 to n-1; the memories may be longer, and the places from n on are neither
    read nor changed. Services are at 4096 (isolate), 4097 (add jump target), 4098 (add store target) and,
    in strict mode, 4099 (add read target).
@@ -14,6 +15,10 @@
    one of its readers, isolate takes a fourth set, and there is a fourth service, which is compartment 4's.
    In the other mode reading is free to all, 4099 is no place, 4 is a compartment number like any other, and
    the readers are neither looked at nor changed, whatever their length.
+
+   The rows are kept for the host: kl_load fills them, and each step moves them by what its tags change. No answer and nothing else
+   depends on what they hold. A host that wants no rows still lends a table of 64, and need not look at it or keep it: one of any
+   contents will do for each call. kl_owned, kl_jumps and kl_stores count anew and take no table.
 
    Every call takes any values and always returns. Each answer is one number; 0 means done. A call that
    answers another number leaves everything it was lent as it was, except where its comment says more.
@@ -48,14 +53,16 @@ extern "C" {
 #endif
 
 /* Grows by one where a declaration of this header is added or changes: 1 the base, 2 sources, 3 strict mode, 4 kl_check,
-   5 kl_widest is lent the owners, 6 KL_STRAY_BIT beside KL_NO_INSTRUCTION, 7 Intel HEX, 8 kl_why. */
-#define KL_VERSION 8
+   5 kl_widest is lent the owners, 6 KL_STRAY_BIT beside KL_NO_INSTRUCTION, 7 Intel HEX, 8 kl_why, 9 kl_load, kl_step
+   and kl_run are lent rows. */
+#define KL_VERSION 9
 
 /* Sizes. */
 enum {
     KL_PLACES = 2048,      /* the most words of memory: memories of so many places hold every image */
     KL_REGISTERS = 16,     /* r0 to r15 */
     KL_COMPARTMENTS = 64,  /* compartment numbers are below it */
+    KL_ROWS = 64,          /* the rows of a table, one a compartment */
     KL_IMAGE_MAX = 8272,   /* bytes of the longest image: enough for kl_write, kl_assemble and kl_import */
     KL_LINE_MAX = 16,      /* bytes of the longest line of kl_disassemble, its LF counted */
     KL_HEX_MAX = 22540     /* bytes of the longest text of kl_export */
@@ -89,6 +96,7 @@ enum {
     KL_BAD_OWNER = 15,       /* the state is refused: the owner of the word at pc */
     KL_STRAY_BIT = 16,       /* a stop: a known opcode with a bit set that it does not use */
     KL_LOAD_FORBIDDEN = 17,  /* a stop, strict mode: a Load from a word that is neither its owner's nor readable by it */
+    KL_BAD_ROWS = 18,        /* the lent table does not have 64 rows */
     KL_NOT_WHOLE = 20,       /* the image ends inside a field */
     KL_BAD_SIZE = 21,        /* the number of words is not 1 to 2,048 */
     KL_MANY_REGISTERS = 22,  /* more than 16 registers */
@@ -148,7 +156,15 @@ typedef struct kl_processor {
     uint64_t services[4];        /* the sets I of 4096 to 4099; the last is looked at and changed in strict mode only */
 } kl_processor;
 
-/* Does not compile where a compiler lays the record out otherwise than the library, or has other sizes. */
+/* The row of a compartment. The host may read and set rows as it likes: a step moves them by as much as the counts move, so that
+   right rows stay right and a column that was set to 0 tells what came since, modulo 2^32. */
+typedef struct kl_row {
+    uint32_t owned; /* the addresses that it owns, as kl_owned counts them */
+    uint32_t jump;  /* the addresses in its J, as kl_jumps counts them */
+    uint32_t store; /* the addresses in its S, as kl_stores counts them */
+} kl_row;
+
+/* Does not compile where a compiler lays a record or a row out otherwise than the library, or has other sizes. */
 typedef char kl_layout_is_the_library_s
     [sizeof(kl_processor) == 120 && offsetof(kl_processor, n) == 0 && offsetof(kl_processor, regs) == 4 &&
              offsetof(kl_processor, pc) == 68 && offsetof(kl_processor, prev) == 72 && offsetof(kl_processor, jumped) == 76 &&
@@ -157,34 +173,41 @@ typedef char kl_layout_is_the_library_s
          ? 1
          : -1];
 
+typedef char kl_layout_of_a_row_is_the_library_s
+    [sizeof(kl_row) == 12 && offsetof(kl_row, owned) == 0 && offsetof(kl_row, jump) == 4 && offsetof(kl_row, store) == 8 ? 1 : -1];
+
 /* Loads the image in `bytes` for a run in the mode `strict`, over whatever the record held.
    Answers 0: the first N places of the first four memories are filled (words from the image, owner 0,
    I = {1, 2, 3}, W empty), the places from N on keep their contents, and so do the readers; the record is
    the loaded one (registers and pc from the image, prev 0, not jumped, the mode, next 4, each service's set
    {0}). In strict mode the first N places of the readers are filled, too (R empty), I is {1, 2, 3, 4} and
-   next is 5.
-   Answers, the first that applies: 27 the first four memories differ in length, or in strict mode the five;
+   next is 5. All 64 rows are filled, whatever they held: main's is N, the number of services and 0; each service's 1, N and 0; all
+   others are 0.
+   Answers, the first that applies: 27 the first four memories differ in length, or in strict mode the five; 18 rows_len is not 64;
    then from left to right 20 a field is not whole, 21 N not 1 to 2,048, 28 N above the lent length, 22 more
    than 16 registers, 23 the last listed register is 0, 24 entry count not 1, 25 entry not below N; then 26
    bytes left over.
-   A refused load leaves the five memories as they were and the record blank: n 0, registers 0, pc 0,
+   A refused load leaves the five memories and the rows as they were and the record blank: n 0, registers 0, pc 0,
    prev 0, not jumped, the mode asked for, next 4 (in strict mode 5), each service's set {0}. In either mode
    all four sets of `services` are {0} after a load, accepted or refused. */
 uint32_t kl_load(kl_processor *cpu, bool strict, const uint8_t *bytes, size_t bytes_len,
                  uint32_t *words, size_t words_len, uint32_t *owners, size_t owners_len,
                  uint64_t *jumpers, size_t jumpers_len, uint64_t *writers, size_t writers_len,
-                 uint64_t *readers, size_t readers_len);
+                 uint64_t *readers, size_t readers_len, kl_row *rows, size_t rows_len);
 
-/* Checks the image in `bytes` and needs no memory: answers what kl_load would over memories of 2,048 places, in either mode.
+/* Checks the image in `bytes` and needs no memory and no table: answers what kl_load would over memories of 2,048 places and 64 rows,
+   in either mode.
    Answers 0 with the image's number of words in *n, 1 to 2,048: memories of so many places, or more, are enough for kl_load.
    Answers, the first that applies: from left to right 20 a field is not whole, 21 N not 1 to 2,048, 22 more than 16 registers, 23 the
-   last listed register is 0, 24 entry count not 1, 25 entry not below N; then 26 bytes left over. Then *n is 0. It never answers 27
-   or 28. kl_load asks nothing of an earlier check, and answers 28 before what stands behind N: an image cut short there, with N above
+   last listed register is 0, 24 entry count not 1, 25 entry not below N; then 26 bytes left over. Then *n is 0. It never answers 18,
+   27 or 28. kl_load asks nothing of an earlier check, and answers 28 before what stands behind N: an image cut short there, with N above
    the lent length, is 28 to it and 20 here. */
 uint32_t kl_check(const uint8_t *bytes, size_t bytes_len, uint32_t *n);
 
 /* Makes one step.
-   Answers 0: the step ran, and the record and the memories are the state after it.
+   Answers 0: the step ran, and the record and the memories are the state after it. Each row has moved by what the step's changes of
+   tags add or take, each count modulo 2^32: row after = row before + count after - count before, whatever it held; a tag that was
+   written and stayed the same moves nothing, and an owner from 64 on is in no row. A step in memory moves no row.
    Answers 1: the instruction is a Halt.
    Answers 2 to 13, 16 or 17: the step stops. 2 pc is neither in memory nor a service; 3 the word at pc has no
    known opcode; 16 it has one, and a bit set that this opcode does not use; 4 arrival not allowed; 5 Load outside memory; 6 Store outside memory; 7 Store not allowed; 8 the words of a set of
@@ -193,8 +216,9 @@ uint32_t kl_check(const uint8_t *bytes, size_t bytes_len, uint32_t *n);
    target; 12 the return address is not the caller's; 13 no compartment is left; 17 Load not allowed.
    Answers 14: the first four memories differ in length, n is not 1 to 2,048 or is above that length, next is
    not 4 to 64, prev is not below next, or prev is 1, 2 or 3 while pc is a service.
+   Answers 18: rows_len is not 64.
    Answers 15: the owner of the word at pc is 1, 2, 3 or not below next.
-   The first that applies is given, in the order 14, 2, 15, 4; then at a memory word 3 or 16, and 5 and 17, 6 and 7,
+   The first that applies is given, in the order 14, 18, 2, 15, 4; then at a memory word 3 or 16, and 5 and 17, 6 and 7,
    or 1 by its instruction; at isolate 8, 9, 10, 12, 13; at the other services 11, 12.
    In strict mode, and only there: 17 is given where the owner of a Load neither owns the word that it would
    read nor is among its readers. isolate takes a fourth set, R', at r4, after S': 8 looks at it as at the
@@ -204,19 +228,20 @@ uint32_t kl_check(const uint8_t *bytes, size_t bytes_len, uint32_t *n);
    service at 4099 puts the caller among the readers of the word at r1. 14 looks at the lengths of all five
    memories and wants next to be 5 to 64, and 14 and 15 treat 4 as they treat 1, 2 and 3. Fetching is not
    reading: the word at pc need not be readable.
-   With any answer but 0 the record and the memories are as they were, and the next step answers alike. */
+   With any answer but 0 the record, the memories and the rows are as they were, and the next step answers alike. */
 uint32_t kl_step(kl_processor *cpu,
                  uint32_t *words, size_t words_len, uint32_t *owners, size_t owners_len,
                  uint64_t *jumpers, size_t jumpers_len, uint64_t *writers, size_t writers_len,
-                 uint64_t *readers, size_t readers_len);
+                 uint64_t *readers, size_t readers_len, kl_row *rows, size_t rows_len);
 
 /* Makes steps until one answers another number than 0, or `budget` of them answered 0.
-   Answers that number, or 0 where the budget was used. *count is the number of steps that answered 0; the
-   record and the memories are the state after those steps. Budget 0 looks at nothing: answer 0, *count 0. */
+   Answers that number, or 0 where the budget was used. *count is the number of steps that answered 0; the record and the memories
+   are the state after those steps, and the rows have moved by them. Budget 0 looks at nothing, not at rows_len either: answer 0,
+   *count 0. */
 uint32_t kl_run(kl_processor *cpu,
                 uint32_t *words, size_t words_len, uint32_t *owners, size_t owners_len,
                 uint64_t *jumpers, size_t jumpers_len, uint64_t *writers, size_t writers_len,
-                uint64_t *readers, size_t readers_len, uint32_t budget, uint32_t *count);
+                uint64_t *readers, size_t readers_len, kl_row *rows, size_t rows_len, uint32_t budget, uint32_t *count);
 
 /* Why the next step answers its number, in numbers; one that says nothing of an answer is 0. docs/REFERENCE.md has the table. */
 typedef struct kl_reason {
