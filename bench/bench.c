@@ -24,13 +24,14 @@ typedef struct machine {
     kl_processor cpu;
     uint32_t words[PLACES], owners[PLACES];
     uint64_t jumpers[PLACES], writers[PLACES], readers[PLACES];
+    kl_row rows[KL_ROWS];
     uint32_t answer, count;
 } machine;
 
 typedef uint32_t load_call(kl_processor *, bool, const uint8_t *, size_t, uint32_t *, size_t, uint32_t *, size_t,
-                           uint64_t *, size_t, uint64_t *, size_t, uint64_t *, size_t);
+                           uint64_t *, size_t, uint64_t *, size_t, uint64_t *, size_t, kl_row *, size_t);
 typedef uint32_t run_call(kl_processor *, uint32_t *, size_t, uint32_t *, size_t, uint64_t *, size_t, uint64_t *,
-                          size_t, uint64_t *, size_t, uint32_t, uint32_t *);
+                          size_t, uint64_t *, size_t, kl_row *, size_t, uint32_t, uint32_t *);
 
 /* The two sides that are timed. */
 typedef struct side {
@@ -74,7 +75,7 @@ double now_ms(void)
 static void load(const side *s, const workload *w, machine *m)
 {
     m->answer = s->load(&m->cpu, w->strict, w->image, w->image_len, m->words, PLACES, m->owners, PLACES, m->jumpers,
-                        PLACES, m->writers, PLACES, m->readers, PLACES);
+                        PLACES, m->writers, PLACES, m->readers, PLACES, m->rows, KL_ROWS);
 }
 
 /* Puts the loaded state back: the same copy on both sides. */
@@ -87,6 +88,7 @@ static void reload(machine *m, const machine *start)
     memcpy(m->jumpers, start->jumpers, n * sizeof m->jumpers[0]);
     memcpy(m->writers, start->writers, n * sizeof m->writers[0]);
     memcpy(m->readers, start->readers, n * sizeof m->readers[0]);
+    memcpy(m->rows, start->rows, sizeof m->rows);
 }
 
 /* Does the workload `repeats` times on one side; gives the steps that ran (or the loads). */
@@ -100,7 +102,7 @@ static uint64_t repeat(const side *s, const workload *w, uint32_t repeats, machi
         } else {
             reload(m, &w->start);
             m->answer = s->run(&m->cpu, m->words, PLACES, m->owners, PLACES, m->jumpers, PLACES, m->writers, PLACES,
-                               m->readers, PLACES, w->budget, &m->count);
+                               m->readers, PLACES, m->rows, KL_ROWS, w->budget, &m->count);
             steps += m->count;
         }
     }
@@ -124,7 +126,7 @@ static uint32_t calibrate(const workload *w, double ms, machine *m)
     }
 }
 
-/* Both sides must end in the same record, the same memories, the same answer and the same count. */
+/* Both sides must end in the same record, memories and rows, with the same answer and the same count. */
 static void check_same(const workload *w, const machine *c, const machine *ours)
 {
     const kl_processor *a = &c->cpu, *b = &ours->cpu;
@@ -140,6 +142,7 @@ static void check_same(const workload *w, const machine *c, const machine *ours)
     if (memcmp(c->jumpers, ours->jumpers, sizeof c->jumpers) != 0) fail(w->name, "the jumpers differ");
     if (memcmp(c->writers, ours->writers, sizeof c->writers) != 0) fail(w->name, "the writers differ");
     if (memcmp(c->readers, ours->readers, sizeof c->readers) != 0) fail(w->name, "the readers differ");
+    if (memcmp(c->rows, ours->rows, sizeof c->rows) != 0) fail(w->name, "the rows differ");
 }
 
 double least(double a, double b) { return a < b ? a : b; }

@@ -32,10 +32,11 @@ static void run_name(bool strict, const char *name, size_t length, totals *t)
 {
     uint32_t words[MOST_WORDS] = {0}, owners[MOST_WORDS] = {0};
     uint64_t jumpers[MOST_WORDS] = {0}, writers[MOST_WORDS] = {0}, readers[MOST_WORDS] = {0};
+    kl_row rows[ROWS];
     kl_processor cpu;
     const size_t got = take(name, length);
     const uint32_t loaded = sheet_load(&cpu, strict, image, got, words, MOST_WORDS, owners, MOST_WORDS, jumpers, MOST_WORDS,
-                                       writers, MOST_WORDS, readers, MOST_WORDS);
+                                       writers, MOST_WORDS, readers, MOST_WORDS, rows, ROWS);
     t->images++;
     if (loaded != 0) {
         t->refused++;
@@ -44,7 +45,7 @@ static void run_name(bool strict, const char *name, size_t length, totals *t)
     }
     uint32_t count = 0;
     const uint32_t answer = sheet_run(&cpu, words, MOST_WORDS, owners, MOST_WORDS, jumpers, MOST_WORDS, writers, MOST_WORDS,
-                                      readers, MOST_WORDS, BUDGET, &count);
+                                      readers, MOST_WORDS, rows, ROWS, BUDGET, &count);
     t->ended[answer]++;
     t->steps += count;
     printf("answer %u steps %u pc %u prev %u jumped %u next %u widest %u", answer, count, cpu.pc, cpu.prev, cpu.jumped ? 1u : 0u,

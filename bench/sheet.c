@@ -7,10 +7,12 @@
 
 enum { NOP, CONST, MOV, ADD, SUB, MUL, EQ, LEQ, LOAD, STORE, JUMP, JAL, BNZ, HALT, OPCODES };
 
-/* The five lent memories, once 14 has found them alike; but for strict mode the readers may have any length. */
+/* The five lent memories, once 14 has found them alike, and the rows, once 18 has found 64; but for strict mode the readers
+   may have any length. */
 typedef struct memories {
     uint32_t *words, *owners;
     uint64_t *jumpers, *writers, *readers;
+    kl_row *rows;
 } memories;
 
 /* "each set one 64-bit number with a bit per compartment"; who is below 64. */
@@ -133,10 +135,23 @@ static bool owned_by_caller(const kl_processor *cpu, const memories *m, uint32_t
     return x < cpu->n && m->owners[x] == cpu->prev;
 }
 
-/* "J' gets next in I", "S' gets next in W": who joins the sets of the places first to past-1. */
-static void join(uint64_t *sets, uint32_t first, uint32_t past, uint32_t who)
+/* "A' gets owner next": the place leaves its owner's row for that of who, at each write, so that a place which two pairs name
+   moves from who to who the second time. "An owner from 64 on is in no row." */
+static void own(memories *m, uint32_t x, uint32_t who)
 {
-    for (uint32_t x = first; x < past; x++) sets[x] = with(sets[x], who);
+    if (m->owners[x] < ROWS) m->rows[m->owners[x]].owned--;
+    m->rows[who].owned++;
+    m->owners[x] = who;
+}
+
+/* "J' gets next in I", "S' gets next in W": who joins the sets of the places first to past-1. The count of its row, where
+   these sets have one, grows by "what its tag changes add": 1 where it was not there. */
+static void join(uint64_t *sets, uint32_t first, uint32_t past, uint32_t who, uint32_t *count)
+{
+    for (uint32_t x = first; x < past; x++) {
+        if (count != NULL) *count += !holds(sets[x], who);
+        sets[x] = with(sets[x], who);
+    }
 }
 
 /* The four sets of an isolate; in 01's mode the last is empty. */
@@ -149,17 +164,19 @@ typedef struct request {
 static void grant(kl_processor *cpu, memories *m, const request *q)
 {
     const uint32_t child = cpu->next++;
+    kl_row *const row = &m->rows[child];
     for (uint32_t i = 0; i < q->own.count; i++) {
         const uint32_t first = q->own.at[2 * i], past = q->own.at[2 * i + 1];
-        for (uint32_t x = first; x < past; x++) m->owners[x] = child;
+        for (uint32_t x = first; x < past; x++) own(m, x, child);
     }
     for (uint32_t i = 0; i < q->jump.count; i++) {
         const uint32_t first = q->jump.at[2 * i], past = q->jump.at[2 * i + 1];
-        if (first < cpu->n) join(m->jumpers, first, past, child);
-        else join(cpu->services, first - ISOLATE, past - ISOLATE, child);
+        if (first < cpu->n) join(m->jumpers, first, past, child, &row->jump);
+        else join(cpu->services, first - ISOLATE, past - ISOLATE, child, &row->jump);
     }
-    for (uint32_t i = 0; i < q->store.count; i++) join(m->writers, q->store.at[2 * i], q->store.at[2 * i + 1], child);
-    for (uint32_t i = 0; i < q->read.count; i++) join(m->readers, q->read.at[2 * i], q->read.at[2 * i + 1], child);
+    for (uint32_t i = 0; i < q->store.count; i++)
+        join(m->writers, q->store.at[2 * i], q->store.at[2 * i + 1], child, &row->store);
+    for (uint32_t i = 0; i < q->read.count; i++) join(m->readers, q->read.at[2 * i], q->read.at[2 * i + 1], child, NULL);
 }
 
 /* "isolate: r1, r2, r3 point at the sets A', J', S' in memory": 8, 9, 10, 12, 13 in this order. In strict mode
@@ -182,21 +199,22 @@ static uint32_t isolate(kl_processor *cpu, memories *m)
 
 /* "r1 is the address. 11 unless the caller owns it, then 12 unless the caller owns r15. Otherwise the caller's
    number joins I or W there"; the fourth service "adds a read target by the rules of the other two". */
-static uint32_t add_target(kl_processor *cpu, memories *m, uint64_t *sets)
+static uint32_t add_target(kl_processor *cpu, memories *m, uint64_t *sets, uint32_t *count)
 {
     if (!owned_by_caller(cpu, m, cpu->regs[1])) return 11;
     if (!owned_by_caller(cpu, m, cpu->regs[RETURN])) return 12;
-    sets[cpu->regs[1]] = with(sets[cpu->regs[1]], cpu->prev);
+    join(sets, cpu->regs[1], cpu->regs[1] + 1, cpu->prev, count);
     return 0;
 }
 
 static uint32_t call(kl_processor *cpu, memories *m)
 {
+    kl_row *const row = &m->rows[cpu->prev];
     switch (cpu->pc) {
     case ISOLATE: return isolate(cpu, m);
-    case ADD_JUMP: return add_target(cpu, m, m->jumpers);
-    case ADD_STORE: return add_target(cpu, m, m->writers);
-    default: return add_target(cpu, m, m->readers);
+    case ADD_JUMP: return add_target(cpu, m, m->jumpers, &row->jump);
+    case ADD_STORE: return add_target(cpu, m, m->writers, &row->store);
+    default: return add_target(cpu, m, m->readers, NULL);
     }
 }
 
@@ -288,26 +306,28 @@ stop:
 }
 
 /* "A run with a budget steps until the first nonzero answer or the budget is used, and tells how many steps
-   answered 0. Budget 0 looks at nothing and answers 0 with count 0." */
+   answered 0. Budget 0 looks at nothing and answers 0 with count 0." "18 when the table does not have 64 rows, after 14 in
+   a step". */
 uint32_t sheet_run(kl_processor *cpu,
                    uint32_t *words, size_t words_len, uint32_t *owners, size_t owners_len,
                    uint64_t *jumpers, size_t jumpers_len, uint64_t *writers, size_t writers_len,
-                   uint64_t *readers, size_t readers_len, uint32_t budget, uint32_t *count)
+                   uint64_t *readers, size_t readers_len, kl_row *rows, size_t rows_len, uint32_t budget, uint32_t *count)
 {
     *count = 0;
     if (budget == 0) return 0;
     if (!same_lengths(cpu->strict, words_len, owners_len, jumpers_len, writers_len, readers_len)) return 14;
     if (!is_formed(cpu, words_len)) return 14;
-    return steps(cpu, (memories){words, owners, jumpers, writers, readers}, budget, count);
+    if (rows_len != ROWS) return 18;
+    return steps(cpu, (memories){words, owners, jumpers, writers, readers, rows}, budget, count);
 }
 
 /* "One step, checks in this order": a run with budget 1. */
 uint32_t sheet_step(kl_processor *cpu,
                     uint32_t *words, size_t words_len, uint32_t *owners, size_t owners_len,
                     uint64_t *jumpers, size_t jumpers_len, uint64_t *writers, size_t writers_len,
-                    uint64_t *readers, size_t readers_len)
+                    uint64_t *readers, size_t readers_len, kl_row *rows, size_t rows_len)
 {
     uint32_t count;
     return sheet_run(cpu, words, words_len, owners, owners_len, jumpers, jumpers_len, writers, writers_len, readers,
-                     readers_len, 1, &count);
+                     readers_len, rows, rows_len, 1, &count);
 }

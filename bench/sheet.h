@@ -9,12 +9,12 @@
 uint32_t sheet_step(kl_processor *cpu,
                     uint32_t *words, size_t words_len, uint32_t *owners, size_t owners_len,
                     uint64_t *jumpers, size_t jumpers_len, uint64_t *writers, size_t writers_len,
-                    uint64_t *readers, size_t readers_len);
+                    uint64_t *readers, size_t readers_len, kl_row *rows, size_t rows_len);
 
 uint32_t sheet_run(kl_processor *cpu,
                    uint32_t *words, size_t words_len, uint32_t *owners, size_t owners_len,
                    uint64_t *jumpers, size_t jumpers_len, uint64_t *writers, size_t writers_len,
-                   uint64_t *readers, size_t readers_len, uint32_t budget, uint32_t *count);
+                   uint64_t *readers, size_t readers_len, kl_row *rows, size_t rows_len, uint32_t budget, uint32_t *count);
 
 uint32_t sheet_decode(uint32_t word, uint32_t fields[4]);
 
@@ -24,7 +24,7 @@ uint32_t sheet_encode(uint32_t op, uint32_t a, uint32_t b, uint32_t low, uint32_
 uint32_t sheet_load(kl_processor *cpu, bool strict, const uint8_t *bytes, size_t bytes_len,
                     uint32_t *words, size_t words_len, uint32_t *owners, size_t owners_len,
                     uint64_t *jumpers, size_t jumpers_len, uint64_t *writers, size_t writers_len,
-                    uint64_t *readers, size_t readers_len);
+                    uint64_t *readers, size_t readers_len, kl_row *rows, size_t rows_len);
 
 uint32_t sheet_check(const uint8_t *bytes, size_t bytes_len, uint32_t *n);
 

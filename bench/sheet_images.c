@@ -51,16 +51,25 @@ static void make_blank(kl_processor *cpu, bool strict)
     for (int s = 0; s < 4; s++) cpu->services[s] = MAIN_SET;
 }
 
+/* "Loading fills it": main has every word and may jump to the services, a service has itself and may return to every word. */
+static void fill_rows(kl_row rows[ROWS], bool strict, uint32_t n)
+{
+    memset(rows, 0, ROWS * sizeof rows[0]);
+    rows[0] = (kl_row){n, service_count(strict), 0};
+    for (uint32_t s = 1; s <= service_count(strict); s++) rows[s] = (kl_row){1, n, 0};
+}
+
 /* "27 lent memories differ in length; then .. Accepted: the first N places of each memory are filled, the rest
    keep their contents"; "every owner 0, every I = {1, 2, 3}, every W empty". "a strict mode, chosen at load": the
-   readers "all empty after loading", and looked at in no other mode. */
+   readers "all empty after loading", and looked at in no other mode. "18 .. after 27 in a load". */
 uint32_t sheet_load(kl_processor *cpu, bool strict, const uint8_t *bytes, size_t bytes_len,
                     uint32_t *words, size_t words_len, uint32_t *owners, size_t owners_len,
                     uint64_t *jumpers, size_t jumpers_len, uint64_t *writers, size_t writers_len,
-                    uint64_t *readers, size_t readers_len)
+                    uint64_t *readers, size_t readers_len, kl_row *rows, size_t rows_len)
 {
     make_blank(cpu, strict);
     if (!same_lengths(strict, words_len, owners_len, jumpers_len, writers_len, readers_len)) return 27;
+    if (rows_len != ROWS) return 18;
     const uint32_t refusal = check_image(bytes, bytes_len, words_len);
     if (refusal != 0) return refusal;
 
@@ -75,18 +84,20 @@ uint32_t sheet_load(kl_processor *cpu, bool strict, const uint8_t *bytes, size_t
     for (uint32_t r = 0; r < listed; r++) cpu->regs[r] = number_at(bytes, n + 2 + r);
     cpu->n = n;
     cpu->pc = number_at(bytes, n + 3 + listed);
+    fill_rows(rows, strict, n);
     return 0;
 }
 
 /* "one call checks an image, tells N or the refusal and needs no memory": "what the filling call would over four memories
-   of 2,048 places". It makes that very load, over memories of its own. */
+   of 2,048 places". It makes that very load, over memories and rows of its own. */
 uint32_t sheet_check(const uint8_t *bytes, size_t bytes_len, uint32_t *n)
 {
     static kl_processor cpu;
     static uint32_t words[MOST_WORDS], owners[MOST_WORDS];
     static uint64_t jumpers[MOST_WORDS], writers[MOST_WORDS];
+    static kl_row rows[ROWS];
     const uint32_t answer = sheet_load(&cpu, false, bytes, bytes_len, words, MOST_WORDS, owners, MOST_WORDS, jumpers,
-                                       MOST_WORDS, writers, MOST_WORDS, writers, 0);
+                                       MOST_WORDS, writers, MOST_WORDS, writers, 0, rows, ROWS);
     *n = cpu.n;
     return answer;
 }

@@ -6,7 +6,7 @@
 #include <stddef.h>
 #include <stdint.h>
 
-enum { MOST_WORDS = 2048, REGISTERS = 16, RETURN = 15, MOST_COMPARTMENTS = 64 };
+enum { MOST_WORDS = 2048, REGISTERS = 16, RETURN = 15, MOST_COMPARTMENTS = 64, ROWS = 64 };
 enum { ISOLATE = 4096, ADD_JUMP, ADD_STORE, ADD_READ };
 
 /* Services "at 4096, 4097, 4098"; in strict mode "a fourth service at 4099". */
