@@ -60,6 +60,10 @@ static void load_over(bool strict, size_t length, const size_t lent[MEMORIES])
     begin();
     check_load(&ours, &sheet, strict, bytes, length);
     check_image(bytes, length);
+    if (!one_in(4)) return;
+    sheet.rows_lent = odd_length(); /* the same once more, with another table */
+    begin();
+    check_load(&ours, &sheet, strict, bytes, length);
 }
 
 /* In either mode, over memories of one length. */
@@ -208,6 +212,7 @@ void refused_case(void)
 static void full_set(bool strict, uint32_t count, uint32_t place, uint32_t first, uint32_t past)
 {
     make_state(&sheet, 2048, strict);
+    sheet.rows_lent = ROWS;
     kl_processor *p = &sheet.cpu;
     p->pc = ISOLATE, p->prev = 0, p->jumped = true, p->next = 63, p->services[0] |= 1;
     p->regs[1] = p->regs[2] = p->regs[3] = p->regs[4] = 0, p->regs[15] = 5;
@@ -244,6 +249,14 @@ void services_case(void)
     go_on(2);
 }
 
+/* A step with a table that is none, which moves nothing; then 64 rows are lent again. */
+static void try_odd_rows(void)
+{
+    ours.rows_lent = sheet.rows_lent = odd_length();
+    check_step(&ours, &sheet);
+    ours.rows_lent = sheet.rows_lent = ROWS;
+}
+
 /* Loads a program on both sides and runs it in pieces, up to some thousand steps. */
 void programs_case(void)
 {
@@ -254,9 +267,14 @@ void programs_case(void)
     if (!strict && one_in(2)) sheet.lent[READERS] = below((uint32_t)lent + 5);
     begin();
     if (check_load(&ours, &sheet, strict, bytes, length) != 0) return;
-    for (uint32_t pieces = between(1, 6); pieces > 0; pieces--)
-        if (check_run(&ours, &sheet, one_in(4) ? below(3000) : below(200)).answer != 0) break;
+    check_right(&ours);
+    for (uint32_t pieces = between(1, 6), answer = 0; pieces > 0 && answer == 0; pieces--) {
+        answer = check_run(&ours, &sheet, one_in(4) ? below(3000) : below(200)).answer;
+        check_right(&ours);
+        if (one_in(8)) try_odd_rows();
+    }
     check_step(&ours, &sheet);
+    check_right(&ours);
 }
 
 /* ---- the counts ---- */

@@ -104,6 +104,9 @@ static void show_state(const state *s)
     for (size_t i = 0; i < s->kept; i++)
         printf("%zu: %08" PRIX32 " %" PRIX32 " %016" PRIX64 " %016" PRIX64 " %016" PRIX64 "\n", i, s->words[i],
                s->owners[i], s->jumpers[i], s->writers[i], s->readers[i]);
+    printf("rows lent: %zu\nrow: owned jump store (decimal; the guards too)\n", s->rows_lent);
+    for (size_t c = 0; c < ROWS_ROOM; c++)
+        printf("%zu: %" PRIu32 " %" PRIu32 " %" PRIu32 "\n", c, s->rows[c].owned, s->rows[c].jump, s->rows[c].store);
 }
 
 static void show_differences(const state *ours, const state *sheet)
@@ -124,6 +127,11 @@ static void show_differences(const state *ours, const state *sheet)
         show("writers at", i, ours->writers[i], sheet->writers[i]);
         show("readers at", i, ours->readers[i], sheet->readers[i]);
     }
+    for (size_t c = 0; c < ROWS_ROOM; c++) {
+        show("owned in row", c, ours->rows[c].owned, sheet->rows[c].owned);
+        show("jump in row", c, ours->rows[c].jump, sheet->rows[c].jump);
+        show("store in row", c, ours->rows[c].store, sheet->rows[c].store);
+    }
 }
 
 /* ---- states ---- */
@@ -133,6 +141,8 @@ void copy_state(state *to, const state *from)
     to->cpu = from->cpu;
     memcpy(to->lent, from->lent, sizeof to->lent);
     to->kept = from->kept;
+    to->rows_lent = from->rows_lent;
+    memcpy(to->rows, from->rows, sizeof to->rows);
     memcpy(to->words, from->words, from->kept * sizeof to->words[0]);
     memcpy(to->owners, from->owners, from->kept * sizeof to->owners[0]);
     memcpy(to->jumpers, from->jumpers, from->kept * sizeof to->jumpers[0]);
@@ -160,6 +170,12 @@ static bool same_from(const state *a, const state *b, const size_t from[MEMORIES
 }
 
 static const size_t WHOLE[MEMORIES] = {0};
+
+/* Whether the rows are equal from the given one on, the guards too. */
+static bool same_rows(const state *a, const state *b, size_t from)
+{
+    return memcmp(a->rows + from, b->rows + from, (ROWS_ROOM - from) * sizeof a->rows[0]) == 0;
+}
 
 /* ---- the counts ---- */
 
@@ -232,8 +248,8 @@ void check_counted(const counted *lent)
 /* ---- what is left ---- */
 
 /* Compares what the two sides told and left. On the sheet's side it looks, too, that no guard moved and that what
-   the sheet says is kept was kept: the memories by `keeps_memories`, the record by `keeps_record`, and the readers in
-   01's mode always. */
+   the sheet says is kept was kept: the memories and the rows by `keeps_memories`, the record by `keeps_record`, and the
+   readers in 01's mode always. */
 static void settle(const char *call, const state *before, const state *ours, const state *sheet, told a, told b,
                    bool keeps_memories, bool keeps_record)
 {
@@ -242,8 +258,9 @@ static void settle(const char *call, const state *before, const state *ours, con
     if (!sheet->cpu.strict) guarded[READERS] = 0;
     count_case(b.answer);
     const bool same = a.answer == b.answer && a.count == b.count && same_record(&ours->cpu, &sheet->cpu) &&
-                      same_from(ours, sheet, WHOLE);
+                      same_from(ours, sheet, WHOLE) && same_rows(ours, sheet, 0);
     const bool sound = same_from(sheet, before, keeps_memories ? WHOLE : guarded) &&
+                       same_rows(sheet, before, keeps_memories ? 0 : sheet->rows_lent) &&
                        (!keeps_record || same_record(&sheet->cpu, &before->cpu));
     if (same && sound) {
         if (now.cases % COUNTED == 0) compare_counts(ours, sheet);
@@ -261,10 +278,11 @@ static void settle(const char *call, const state *before, const state *ours, con
 
 /* ---- the calls ---- */
 
-/* The five memories of a state as a call takes them: pointer, then length. */
-#define LENT(s)                                                                                                \
+/* The five memories and the rows of a state as a call takes them: pointer, then length. */
+#define MEMORIES_OF(s)                                                                                         \
     (s)->words, (s)->lent[WORDS], (s)->owners, (s)->lent[OWNERS], (s)->jumpers, (s)->lent[JUMPERS], (s)->writers, \
         (s)->lent[WRITERS], (s)->readers, (s)->lent[READERS]
+#define LENT(s) MEMORIES_OF(s), (s)->rows, (s)->rows_lent
 
 static state before;
 
@@ -311,16 +329,26 @@ static void compare_reasons(const kl_reason *a, const kl_reason *b)
     end_report();
 }
 
+/* What plain C answers of the state before the step with a table of 64 rows: kl_why looks at none. */
+static uint32_t without_table(void)
+{
+    static state alone;
+    copy_state(&alone, &before);
+    alone.rows_lent = KL_ROWS;
+    return sheet_step(&alone.cpu, LENT(&alone));
+}
+
 uint32_t check_step(state *ours, state *sheet)
 {
     kl_reason why, wanted;
     copy_state(&before, sheet);
-    kl_why(&ours->cpu, LENT(ours), &why);
+    kl_why(&ours->cpu, MEMORIES_OF(ours), &why);
     const told a = {timed_step(ours), 0};
     const told b = {sheet_step(&sheet->cpu, LENT(sheet)), 0};
     settle("kl_step", &before, ours, sheet, a, b, b.answer != 0, b.answer != 0);
-    sheet_why(&before.cpu, LENT(&before), b.answer, &wanted);
+    sheet_why(&before.cpu, MEMORIES_OF(&before), b.answer == KL_BAD_ROWS ? without_table() : b.answer, &wanted);
     compare_reasons(&why, &wanted);
+    if (b.answer == 0) check_moved("kl_step", &before, sheet);
     return b.answer;
 }
 
@@ -333,6 +361,7 @@ told check_run(state *ours, state *sheet, uint32_t budget)
     a.answer = kl_run(&ours->cpu, LENT(ours), budget, &a.count);
     b.answer = sheet_run(&sheet->cpu, LENT(sheet), budget, &b.count);
     settle(call, &before, ours, sheet, a, b, b.count == 0, b.count == 0);
+    if (b.count > 0) check_moved(call, &before, sheet);
     return b;
 }
 
@@ -343,74 +372,12 @@ uint32_t check_load(state *ours, state *sheet, bool strict, const uint8_t *bytes
     copy_state(&before, sheet);
     const told a = {kl_load(&ours->cpu, strict, bytes, length, LENT(ours)), 0};
     const told b = {sheet_load(&sheet->cpu, strict, bytes, length, LENT(sheet)), 0};
-    if (a.answer != b.answer || !same_record(&ours->cpu, &sheet->cpu) || !same_from(ours, sheet, WHOLE))
+    if (a.answer != b.answer || !same_record(&ours->cpu, &sheet->cpu) || !same_from(ours, sheet, WHOLE) ||
+        !same_rows(ours, sheet, 0))
         for (size_t i = 0; i < length; i++) at += (size_t)snprintf(call + at, 4, " %02X", bytes[i]);
     settle(call, &before, ours, sheet, a, b, b.answer != 0, false);
+    if (b.answer == 0) check_filled(sheet);
     return b.answer;
-}
-
-void check_image(const uint8_t *bytes, size_t length)
-{
-    uint32_t n = any_number(), wanted = any_number();
-    const uint32_t ours = kl_check(bytes, length, &n), sheet = sheet_check(bytes, length, &wanted);
-    count_case(sheet);
-    if (ours == sheet && n == wanted) return;
-    begin_report("kl_check");
-    printf("  %zu bytes:", length);
-    for (size_t i = 0; i < length; i++) printf(" %02X", bytes[i]);
-    printf("\n");
-    show("answer", ALONE, ours, sheet);
-    show("n", ALONE, n, wanted);
-    end_report();
-}
-
-void check_decode(uint32_t word)
-{
-    uint32_t a[4], b[4];
-    for (int i = 0; i < 4; i++) a[i] = b[i] = any_number();
-    const uint32_t ours = kl_decode(word, a), sheet = sheet_decode(word, b);
-    count_case(sheet);
-    if (ours == sheet && memcmp(a, b, sizeof a) == 0) return;
-    begin_report("kl_decode");
-    printf("  word %08" PRIX32 "\n", word);
-    show("answer", ALONE, ours, sheet);
-    for (size_t i = 0; i < 4; i++) show("field", i, a[i], b[i]);
-    end_report();
-}
-
-void check_encode(uint32_t op, uint32_t a, uint32_t b, uint32_t low)
-{
-    uint32_t word = any_number(), wanted = any_number();
-    const uint32_t ours = kl_encode(op, a, b, low, &word), sheet = sheet_encode(op, a, b, low, &wanted);
-    count_case(sheet);
-    if (ours == sheet && word == wanted) return;
-    begin_report("kl_encode");
-    printf("  op %" PRIu32 " a %" PRIu32 " b %" PRIu32 " low %" PRIu32 "\n", op, a, b, low);
-    show("answer", ALONE, ours, sheet);
-    show("word", ALONE, word, wanted);
-    end_report();
-}
-
-void check_write(const uint32_t *words, size_t n, const uint32_t regs[16], uint32_t entry, size_t out_len)
-{
-    static uint8_t out[BYTES_ROOM], wanted[BYTES_ROOM];
-    const size_t kept = out_len + GUARD;
-    size_t length = any_number(), wanted_length = any_number();
-    for (size_t i = 0; i < kept; i++) out[i] = wanted[i] = (uint8_t)(i * 37 + 11);
-    const uint32_t ours = kl_write(words, n, regs, entry, out, out_len, &length);
-    const uint32_t sheet = sheet_write(words, n, regs, entry, wanted, out_len, &wanted_length);
-    count_case(sheet);
-    if (ours == sheet && length == wanted_length && memcmp(out, wanted, kept) == 0) return;
-    begin_report("kl_write");
-    printf("  %zu words, entry %" PRIu32 ", out buffer of %zu bytes, registers", n, entry, out_len);
-    for (int i = 0; i < 16; i++) printf(" %" PRIX32, regs[i]);
-    printf("\n  words");
-    for (size_t i = 0; i < n; i++) printf(" %08" PRIX32, words[i]);
-    printf("\n");
-    show("answer", ALONE, ours, sheet);
-    show("length", ALONE, length, wanted_length);
-    for (size_t i = 0; i < kept; i++) show("byte at", i, out[i], wanted[i]);
-    end_report();
 }
 
 void expect(const char *what, uint64_t ours, uint64_t sheet, uint64_t wanted)

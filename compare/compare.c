@@ -10,7 +10,8 @@
 #include <unistd.h>
 
 _Static_assert((int)KL_PLACES == (int)MOST_WORDS && (int)KL_REGISTERS == (int)REGISTERS &&
-                   (int)KL_COMPARTMENTS == (int)MOST_COMPARTMENTS && (int)KL_IMAGE_MAX == (int)IMAGE_MOST &&
+                   (int)KL_COMPARTMENTS == (int)MOST_COMPARTMENTS && (int)KL_ROWS == (int)ROWS &&
+                   (int)KL_IMAGE_MAX == (int)IMAGE_MOST &&
                    (int)KL_ISOLATE == (int)ISOLATE && (int)KL_ADD_JUMP_TARGET == (int)ADD_JUMP &&
                    (int)KL_ADD_STORE_TARGET == (int)ADD_STORE && (int)KL_ADD_READ_TARGET == (int)ADD_READ,
                "the header's sizes and services are the sheet's");
@@ -26,6 +27,7 @@ static const struct kind {
     {"refused", NULL, refused_case},       {"services", fixed_services, services_case},
     {"programs", NULL, programs_case},     {"counts", fixed_counts, counts_case},
     {"exports", fixed_exports, exports_case}, {"imports", fixed_imports, imports_case},
+    {"rows", rows_lines, NULL},
 };
 
 /* One line that is written over on a terminal; elsewhere a line where a kind begins and at each quarter. */

@@ -8,13 +8,14 @@
 
 enum { WORDS, OWNERS, JUMPERS, WRITERS, READERS, MEMORIES };
 enum { GUARD = 8, ROOM = 2048 + 16 + GUARD, IMAGE_MOST = 8272, BYTES_ROOM = IMAGE_MOST + 64 };
-enum { PROGRAM_SIZE = 144 };
+enum { PROGRAM_SIZE = 144, ROWS_MOST = ROWS + 8, ROWS_ROOM = ROWS_MOST + GUARD };
 
-/* A record, the five memories beside it and the lengths that are lent. The places from a lent length on, up to
-   `kept`, guard the memory's end: no call may touch them. */
+/* A record, the five memories and the table of rows beside it, and the lengths that are lent. The places from a lent length
+   on, up to `kept`, guard the memory's end, and all rows from `rows_lent` on the table's: no call may touch them. */
 typedef struct state {
     kl_processor cpu;
-    size_t lent[MEMORIES], kept;
+    size_t lent[MEMORIES], kept, rows_lent;
+    kl_row rows[ROWS_ROOM];
     uint32_t words[ROOM], owners[ROOM];
     uint64_t jumpers[ROOM], writers[ROOM], readers[ROOM];
 } state;
@@ -50,18 +51,15 @@ void make_service_call(state *s, bool strict);    /* pc at a service, with sets 
 size_t make_image(uint8_t *bytes, uint32_t n);    /* a valid image; gives its length */
 size_t make_program(uint8_t *bytes, bool strict); /* a valid image of PROGRAM_SIZE words that runs for a while */
 void spoil_image(uint8_t *bytes, size_t *length);
-void noise(state *s, size_t longest);             /* fills record and memories; kept = longest + GUARD */
+void noise(state *s, size_t longest);             /* fills record, memories and rows; kept = longest + GUARD; lends 64 rows */
 void lend(state *s, size_t length);               /* lends all five memories at this length */
+size_t odd_length(void);                          /* of a table of rows: not 64, most often just beside it */
 
 /* ---- check.c: calls both sides, compares all they left, reports a difference and ends; gives what they told ---- */
 uint32_t check_step(state *ours, state *sheet);   /* our side within a limit of time */
 double slowest_step(void);                        /* of our side so far, in milliseconds */
 told check_run(state *ours, state *sheet, uint32_t budget);
 uint32_t check_load(state *ours, state *sheet, bool strict, const uint8_t *bytes, size_t length);
-void check_image(const uint8_t *bytes, size_t length);
-void check_decode(uint32_t word);
-void check_encode(uint32_t op, uint32_t a, uint32_t b, uint32_t low);
-void check_write(const uint32_t *words, size_t n, const uint32_t regs[16], uint32_t entry, size_t out_len);
 void check_counts(const state *ours, const state *sheet); /* the four, for every compartment and some that are none */
 void check_counted(const counted *lent);                  /* the same, both sides lent the same */
 void copy_state(state *to, const state *from);
@@ -70,6 +68,17 @@ void begin_kind(const char *name, uint64_t seed);
 void begin_case(uint64_t number);
 uint64_t end_kind(void);                          /* prints the kind's counts; gives its cases */
 
+/* ---- check_words.c: the same for the calls that are lent no state ---- */
+void check_image(const uint8_t *bytes, size_t length);
+void check_decode(uint32_t word);
+void check_encode(uint32_t op, uint32_t a, uint32_t b, uint32_t low);
+void check_write(const uint32_t *words, size_t n, const uint32_t regs[16], uint32_t entry, size_t out_len);
+
+/* ---- check_rows.c: the rows of both sides, which are equal, beside a recount of the tags ---- */
+void check_filled(const state *after);            /* by a load: they are what is counted */
+void check_moved(const char *call, const state *before, const state *after); /* by as much as what is counted */
+void check_right(const state *ours);              /* from a load on: they are what kl_owned, kl_jumps and kl_stores count */
+
 /* ---- check.c: the report of a difference ---- */
 #define ALONE SIZE_MAX /* the place of a value that is not one of many */
 void count_case(uint32_t answer);
@@ -77,7 +86,7 @@ void begin_report(const char *call);
 void show(const char *what, size_t place, uint64_t ours, uint64_t sheet); /* where they differ; not all of many */
 void end_report(void);                            /* ends with status 1 */
 
-/* ---- cases.c, lines.c, strict.c, exports.c, imports.c: the kinds ---- */
+/* ---- cases.c, lines.c, strict.c, rows.c, exports.c, imports.c: the kinds ---- */
 void fixed_words(void);
 void fixed_images(void);
 void fixed_writes(void);
@@ -97,6 +106,7 @@ void exports_case(void);
 void imports_case(void);
 void sheet_lines(void);
 void strict_lines(void);
+void rows_lines(void);
 
 /* ---- lines.c: a program, and what its run must come to on both sides ---- */
 extern state line_ours, line_sheet;               /* the states of the two sides */

@@ -31,10 +31,13 @@ void runs(const char *line, uint32_t budget, uint32_t answer, uint32_t count, ui
     expect(line, line_ours.cpu.pc, line_sheet.cpu.pc, pc);
 }
 
-/* A line of the run program: number, addresses owned, in J, in S. */
+/* A line of the run program: number, addresses owned, in J, in S; as counted, and as the row has it. */
 void row(uint32_t c, uint32_t owned, uint32_t jump, uint32_t store)
 {
     const state *a = &line_ours, *b = &line_sheet;
+    expect("owned in its row", a->rows[c].owned, b->rows[c].owned, owned);
+    expect("jump in its row", a->rows[c].jump, b->rows[c].jump, jump);
+    expect("store in its row", a->rows[c].store, b->rows[c].store, store);
     expect("addresses owned", kl_owned(&a->cpu, a->owners, a->lent[OWNERS], c),
            sheet_owned(&b->cpu, b->owners, b->lent[OWNERS], c), owned);
     expect("addresses in J", kl_jumps(&a->cpu, a->jumpers, a->lent[JUMPERS], c),

@@ -12,9 +12,31 @@ void lend(state *s, size_t length)
     for (int m = 0; m < MEMORIES; m++) s->lent[m] = length;
 }
 
+size_t odd_length(void)
+{
+    static const size_t lengths[] = {0, 1, ROWS - 1, ROWS - 1, ROWS + 1, ROWS + 1, ROWS_MOST};
+    if (!one_in(4)) return lengths[below(sizeof lengths / sizeof lengths[0])];
+    const size_t any = below(ROWS_MOST);
+    return any == ROWS ? 0 : any;
+}
+
+/* Rows of any contents: zeros, numbers at the edges, or any. */
+static void noise_rows(state *s)
+{
+    const uint32_t kind = below(3);
+    s->rows_lent = ROWS;
+    for (size_t c = 0; c < ROWS_ROOM; c++) {
+        const uint64_t any = roll();
+        s->rows[c] = kind == 0   ? (kl_row){0, 0, 0}
+                     : kind == 1 ? (kl_row){any_number(), any_number(), any_number()}
+                                 : (kl_row){(uint32_t)any, (uint32_t)(any >> 32), (uint32_t)(any >> 16)};
+    }
+}
+
 void noise(state *s, size_t longest)
 {
     s->kept = longest + GUARD;
+    noise_rows(s);
     for (size_t i = 0; i < s->kept; i++) {
         s->words[i] = (uint32_t)roll();
         s->owners[i] = below(80);
@@ -93,6 +115,7 @@ void make_state(state *s, uint32_t n, bool strict)
     noise(s, length);
     lend(s, length);
     if (!strict && one_in(2)) s->lent[READERS] = below((uint32_t)length + 5); /* any length will do */
+    if (one_in(24)) s->rows_lent = odd_length();
     s->cpu.n = n;
     s->cpu.strict = strict;
     s->cpu.next = few.next;
@@ -118,7 +141,7 @@ static void spoil_once(state *s)
 {
     kl_processor *p = &s->cpu;
     const size_t other = below(MEMORIES);
-    switch (below(13)) {
+    switch (below(14)) {
     case 0: s->lent[other] += 1 + below(3); break;
     case 1: if (s->lent[other] > 0) s->lent[other]--; break;
     case 2: p->n = 0; break;
@@ -132,6 +155,7 @@ static void spoil_once(state *s)
     case 10: if (p->pc < s->kept) s->owners[p->pc] = between(0, 5); break;
     case 11: if (p->pc < s->kept) s->owners[p->pc] = one_in(2) ? any_number() : p->next - 1 + below(3); break;
     case 12: p->strict = !p->strict; break;
+    case 13: s->rows_lent = odd_length(); break;
     }
 }
 
