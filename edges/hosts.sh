@@ -14,6 +14,31 @@ compiles() { # COMPILER WORDS...
     cmp "$room/host.out" "$root/crates/card_run_two/stdout" || wrong "it printed something else"
 }
 
+# An image of 100 words that isolates one of them a turn: eight steps, then seven a turn, of which the sixth isolates. The 61st stops.
+make_turns() {
+    {
+        printf '  %s\n' 'Const 1 r7' 'Const 4096 r6' 'Const none r2' 'Const none r3' 'Const none r4' 'Const 30 r9' 'Const set + 1 r12' \
+            'Const set + 2 r13'
+        printf '%s\n' 'again:' '  Store r12 r9' '  Add r9 r7 r9' '  Store r13 r9' '  Const set r1' '  Jal r6' '  Bnz r7, again - .' \
+            'none:' '  0' 'set:' '  1'
+        printf '  0\n%.0s' {1..84}
+    } >"$room/turns.kl"
+    "$card" asm "$room/turns.kl" >/dev/null
+}
+
+# The rows are shown after every hundred steps, and main's among them: it has lost a word for each isolate so far. What follows them is
+# what is printed without them.
+rows_shown() {
+    local plain shown
+    attempt ${emulator:+"$emulator"} "$root/target/host/host" <"$room/turns.img"
+    plain=$out
+    attempt ${emulator:+"$emulator"} "$root/target/host/host" --rows <"$room/turns.img"
+    ends_with 1
+    shown=$(awk '/^steps / { steps = $2; getline; print steps ": " $0 }' "$room/out" | paste -sd , -)
+    [ "$shown" = '100: 0 87 3 0,200: 0 73 3 0,300: 0 59 3 0,400: 0 44 3 0' ] || wrong "it showed main's row as $shown"
+    [ "${out#*$'\n'answer }" = "${plain#answer }" ] || wrong "it ended with: $out"
+}
+
 sanitized() {
     local folder words
     [ -z "$emulator" ] || skip "the sanitizers do not run in the emulator"
@@ -26,6 +51,8 @@ sanitized() {
         [ -z "$err" ] || wrong "$err"
         writes "$(cat "$folder/stdout")"
     done
+    attempt "$room/host" --rows <"$room/turns.img"
+    [ -z "$err" ] || wrong "$err"
 }
 
 # The example's own statuses, as those of the run program.
@@ -74,6 +101,7 @@ host_checks() {
     find_tools
     find_library
     build host "$example"
+    make_turns
     for language in c99 c11 c17; do
         check compiles "$compiler" "-std=$language" -- "examples/host.c as $language, with no warning"
     done
@@ -86,6 +114,7 @@ host_checks() {
     check example_status /dev/null 2 -- "examples/host.c: refused is status 2"
     check example_status "$room/loop.img" 3 -- "examples/host.c: a used budget is status 3"
     check example_status "$root" 4 -- "examples/host.c: a directory on standard input is status 4"
+    check rows_shown -- "examples/host.c: with --rows the rows are shown after every hundred steps"
     check layout_asserted -- "a record that is laid out otherwise does not compile"
     check needs_of_archive -- "the archive needs memcpy and memset, and nothing else"
 }
