@@ -13,7 +13,7 @@ use Rattle.common.specs.Tables.{Exactly}
 use Rattle.rules.specs.Compartments.{numbers}
 use Rattle.rules.specs.State.{State}
 use Rattle.rules.specs.Run.{Ran, run}
-use Rattle.rules.specs.Images.{load, sizeIn}
+use Rattle.rules.specs.Images.{Loaded, load, sizeIn}
 use Rattle.rules.specs.Rows.{Row, noRow, ownedBelow, freshRows, lentChecks, lentLoadChecks, lentLoadVerdict, LentStepped, lentStep, lentLoad, LentRan, lentRun}
 use Rattle.rules.specs.Theorems.Rows.{told, Right, lent-step-number, lent-load-number, stopped-rows, lent-load, run-right}
 use Rattle.rules.specs.BothMachines.LoadedRows as loaded
@@ -85,13 +85,14 @@ module _ (l : Lending) where
         let z : eqb (lentLoadVerdict m bytes old rows) 0 ≡ false = ne-eqb _ 0 (λ q. n (ap (λ (x : LentStepped). x .answer) e ∙ q)) in
         ap (λ (x : LentStepped). x .rows) e ∙ simp z
 
-  -- ---- right rows stay right, from any state
+  -- ---- right rows stay right, from any state, after a call and after calls in a row
+
+  pub call-right : (q : Asked) (s : State) (rows : List Row) (o : LentRan) → LentAllowed q s rows o → Right s rows → Right (o .state) (o .rows)
+  call-right q s rows o h r = subst (λ (x : LentRan). Right (x .state) (x .rows)) (sym (lent-called q s rows o h)) (run-right (budgetOf q) s rows r)
+
   pub session-right : (s : State) (rows : List Row) (cs : List LentCall) → LentSession s rows cs → Right s rows → Right (leftBy s (seen cs)) (leftRows rows cs)
   session-right s rows [] h r = r
-  session-right s rows (c ∷ cs) h r =
-      let e : c .did ≡ lentRun (budgetOf (c .asked)) s rows = lent-called (c .asked) s rows (c .did) (h .0) in
-      session-right (c .did .state) (c .did .rows) cs (h .1)
-      (subst (λ (o : LentRan). Right (o .state) (o .rows)) (sym e) (run-right (budgetOf (c .asked)) s rows r))
+  session-right s rows (c ∷ cs) h r = session-right (c .did .state) (c .did .rows) cs (h .1) (call-right (c .asked) s rows (c .did) (h .0) r)
 
   -- the loader was lent 64 rows and accepted the bytes in mode m, and then came the calls, each lent the memories and the rows that the load
   -- was lent; no one else touched them
@@ -104,27 +105,17 @@ module _ (l : Lending) where
     pub accepted : outcome .answer ≡ 0
     pub calls : LentSession (outcome .state) (outcome .rows) cs
 
--- the calls of a code that are those of a lending, seen without rows
+-- a call that was lent 64 rows, seen without them, is a call of the code
 pub record Sees (l : Lending) (code : Code) : Type 1 where
-  pub load : (m : Bool) (bytes : List ℕ) (old : State) (o : _) → lending.Loads l m bytes old o → code .Loads m bytes old o
-  pub call : (q : Asked) (s : State) (rows : List Row) (o : LentRan) → length rows ≡ numbers → LentAllowed l q s rows o
-      → Called code s (record { asked = q; did = told o })
+  pub load : (m : Bool) (bytes : List ℕ) (old : State) (o : Loaded) → lending.Loads l m bytes old o → code .Loads m bytes old o
+  pub step : (s : State) (o : Ran) → lending.Steps l s o → code .Steps s o
+  pub run : (budget : ℕ) (s : State) (o : Ran) → lending.Runs l budget s o → code .Runs budget s o
 
 abbrev pub by-value-sees : Sees lending.by-value with-rows
-by-value-sees = record { load = λ m bytes old o h. h; call = go }
-  where
-    go : (q : Asked) (s : State) (rows : List Row) (o : LentRan) → length rows ≡ numbers → LentAllowed lending.by-value q s rows o
-        → Called with-rows s (record { asked = q; did = told o })
-    go one-step s rows o e h = record { rows = rows; all = e; whole = o; does = h; sees = refl }
-    go (steps budget) s rows o e h = record { rows = rows; all = e; whole = o; does = h; sees = refl }
+by-value-sees = record { load = λ m bytes old o h. h; step = λ s o h. h; run = λ budget s o h. h }
 
 abbrev pub for-C-sees : Sees lending.for-C for-C
-for-C-sees = record { load = λ m bytes old o h. h; call = go }
-  where
-    go : (q : Asked) (s : State) (rows : List Row) (o : LentRan) → length rows ≡ numbers → LentAllowed lending.for-C q s rows o
-        → Called for-C s (record { asked = q; did = told o })
-    go one-step s rows o e h = record { rows = rows; all = e; whole = o; does = h; sees = refl }
-    go (steps budget) s rows o e h = record { rows = rows; all = e; whole = o; does = h; sees = refl }
+for-C-sees = record { load = λ m bytes old o h. h; step = λ s o h. h; run = λ budget s o h. h }
 
 -- ---- from an accepted load
 
@@ -141,13 +132,14 @@ module _ (l : Lending) (code : Code) (sees : Sees l code) (m : Bool) (bytes : Li
   pub first-right : Right (b .outcome .state) (b .outcome .rows)
   first-right = subst (λ (o : LentStepped). Right (o .state) (o .rows)) (sym filled) (loaded.load-right m bytes (b .old) (b .table) (b .all) ok)
 
+  seen-call : (q : Asked) (s : State) (t : List Row) (o : LentRan) → length t ≡ numbers → LentAllowed l q s t o → Called code s (record { asked = q; did = told o })
+  seen-call one-step s t o e h = sees .step s (told o) (record { rows = t; all = e; whole = o; does = h; sees = refl })
+  seen-call (steps budget) s t o e h = sees .run budget s (told o) (record { rows = t; all = e; whole = o; does = h; sees = refl })
+
   pub seen-session : (s : State) (rows : List Row) (ds : List LentCall) → Right s rows → LentSession l s rows ds → Session code s (seen ds)
   seen-session s rows [] r h = tt
   seen-session s rows (d ∷ ds) r h =
-      let e : d .did ≡ lentRun (budgetOf (d .asked)) s rows = lent-called l (d .asked) s rows (d .did) (h .0) in (
-        sees .call (d .asked) s rows (d .did) (r .all) (h .0),
-        seen-session (d .did .state) (d .did .rows) ds (subst (λ (o : LentRan). Right (o .state) (o .rows)) (sym e) (run-right (budgetOf (d .asked)) s rows r)) (h .1),
-      )
+      (seen-call (d .asked) s rows (d .did) (r .all) (h .0), seen-session (d .did .state) (d .did .rows) ds (call-right l (d .asked) s rows (d .did) (h .0) r) (h .1))
 
   -- demand 3 speaks of it: all that CodeAgreement says holds of these calls
   abbrev pub begun : Begun code m bytes (seen cs)
