@@ -1,17 +1,19 @@
 -- Laws of the lent table: one row read and written, and a table filled row by row.
 use mathlib.Core.Path.{_≡_, refl, sym, ap, ap₂, _∙_, subst}
-use mathlib.Core.Bool.{Bool, true, false, cond}
+use mathlib.Core.Bool.{Bool, true, false, cond, _&&_}
 use mathlib.Core.List.{List, [], _∷_, map}
 use mathlib.Core.Logic.{_≢_}
 use Prim.Native.Nat.{ℕ, zero, suc, _+_, _-_, _%_, _≤_, _<_}
 use native.Mathlib.Omega.{arith}
 use native.Mathlib.Nat.{not-suc-le-zero, le-of-suc-le-suc, zero-add}
 use native.Mathlib.Decide.{ℕ-discrete}
-use borrow.Author.Tests.{eq-eqb, ne-eqb}
+use borrow.Author.Tests.{eqb-true, eq-eqb, ne-eqb}
+use lib.Dec.{eqb}
 use lib.ListN.{getD, length, set, length-set}
 use lib.Seq.{ext-getD, getD-set-same, getD-set-other, set-out}
 use Rattle.rules.specs.Rows.{Row, noRow, movedBy, rowsFrom}
-use Rattle.rules.specs.Laws.RowLaws.{moved-same, moved-modulo, lost, gained, length-rows, row-of}
+use Rattle.rules.specs.Laws.RowLaws.{moved-same, moved-modulo, lost, gained, settled, lost-none, gained-none, length-rows, row-of}
+use Rattle.common.specs.Laws.Tests.{both}
 use Rattle.rows.specs.Views.{rowOf, table}
 
 -- ---- one count
@@ -21,6 +23,14 @@ is-more x k r h e = e ∙ omega arith ∙ sym (moved-modulo 0 k x h)
 
 pub is-less : (x k r : ℕ) → x < 4294967296 → k < 4294967296 → r < 4294967296 → (r + k) % 4294967296 ≡ x → r ≡ movedBy k 0 x
 is-less x k r h l m e = let a : r ≡ (x + 0 + (4294967296 - k % 4294967296)) % 4294967296 = omega arith in a ∙ sym (moved-modulo k 0 x h)
+
+-- ---- where nothing is lost or gained
+
+pub settled-none : (from to k j t : ℕ) (rows : List Row) → (eqb k 0 && eqb j 0 && eqb t 0) ≡ true → rows ≡ settled from to k j t rows
+settled-none from to k j t rows h =
+    let a = both (eqb k 0 && eqb j 0) (eqb t 0) h in
+    let b = both (eqb k 0) (eqb j 0) (a .0) in
+    simp (eqb-true k 0 (b .0), eqb-true j 0 (b .1), eqb-true t 0 (a .1), lost-none from rows, gained-none to rows)
 
 -- ---- one row
 

@@ -1,6 +1,6 @@
 // The table of rows that a host lends, one row a compartment: how rows are moved, and how the loader fills them.
 ghost use mathlib.Core.Path.{_≡_};
-ghost use mathlib.Core.Bool.{cond};
+ghost use mathlib.Core.Bool.{cond, _&&_};
 ghost use lib.Dec.{eqb};
 ghost use lib.ListN.{getD, length};
 ghost use Rattle.rules.specs.Compartments.{numbers};
@@ -54,10 +54,27 @@ pub fn gain(rows: &mut [Row], number: u32, k: u32, j: u32, t: u32)
     }
 }
 
-// What a service moves: its caller loses k addresses, and one compartment gains them, j jump targets and t store targets.
+// Whether three counts are 0.
+fn nothing(k: u32, j: u32, t: u32) -> bool
+    ensures { λ r. ⌜ r ≡ (eqb k 0 && eqb j 0 && eqb t 0) ⌝ }
+{
+    if k != 0 {
+        return false;
+    }
+    if j != 0 {
+        return false;
+    }
+    t == 0
+}
+
+// What a service moves: its caller loses k addresses, and one compartment gains them, j jump targets and t store targets. Most adds
+// change no tag, as the bit is set already: then no row is looked at.
 pub fn settle(rows: &mut [Row], from: u32, to: u32, k: u32, j: u32, t: u32)
     ensures { λ r. ⌜ table (now (rows .exit)) ≡ settled from to k j t (table (now (rows .entry))) ⌝ }
 {
+    if nothing(k, j, t) {
+        return;
+    }
     lose(rows, from, k);
     gain(rows, to, k, j, t);
 }
