@@ -36,6 +36,7 @@ untold() { # COMMAND FILE
 
 telling_checks() {
     check explain_status "$root/samples/makers.kl" 1 'answer 7 after 22 steps, at pc 15' -- "explain tells a stop, of a source"
+    check explain_status "$root/samples/one.img" 1 'answer 16 after 3 steps, at pc 3: a stray bit' -- "explain tells a stray bit"
     check explain_status "$root/samples/lesson.img" 0 'answer 1 after ' -- "explain tells a Halt"
     check explain_status "$root/README.md" 2 'refused 21: the number of words, at byte 0' -- "explain tells the field of a refused image"
     check explain_budget -- "explain takes a budget"

@@ -48,7 +48,7 @@ fn tell_instruction(pc: u32, word: u32, owner: u32) -> bool {
     write(&line, v)
 }
 
-// 3 and 16.
+// 3 and 16: of an opcode that is none no bits are told.
 fn tell_word(w: Reason) -> bool {
     let mut line = [0u8; ROOM];
     let p = text::put_text(&mut line, 0, b"  the word at ");
@@ -63,9 +63,9 @@ fn tell_word(w: Reason) -> bool {
     }
     let t = text::put_text(&mut line, s, b"; its opcode, ");
     let u = text::put_decimal(&mut line, t, w.value / 16777216);
-    let v = text::put_text(&mut line, u, b", leaves the bits 0x");
+    let v = text::put_text(&mut line, u, b", does not use the bits 0x");
     let x = text::put_hexadecimal(&mut line, v, w.bits);
-    let y = text::put_text(&mut line, x, b" unused\n");
+    let y = text::put_text(&mut line, x, b"\n");
     write(&line, y)
 }
 
@@ -183,7 +183,7 @@ pub(crate) fn put_answer(line: &mut [u8], at: usize, answer: u32) -> usize {
         0 => text::put_text(line, at, b"the budget is used"),
         1 => text::put_text(line, at, b"Halt"),
         2 => text::put_text(line, at, b"pc is neither a memory word nor a service"),
-        3 => text::put_text(line, at, b"the word is no instruction"),
+        3 => text::put_text(line, at, b"no such opcode: the word is probably data"),
         4 => text::put_text(line, at, b"arrival is not allowed"),
         5 => text::put_text(line, at, b"a Load from an address outside memory"),
         6 => text::put_text(line, at, b"a Store to an address outside memory"),
@@ -201,7 +201,7 @@ pub(crate) fn put_answer(line: &mut [u8], at: usize, answer: u32) -> usize {
         16 => text::put_text(
             line,
             at,
-            b"the word has a bit that its opcode leaves unused",
+            b"a stray bit: a known opcode with a bit set that it does not use",
         ),
         17 => text::put_text(line, at, b"a Load that is not allowed"),
         _ => text::put_text(line, at, b"the state is not in order"),
