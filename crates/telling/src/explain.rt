@@ -1,13 +1,11 @@
 // How a run ended, in plain words with every number that matters.
 use crate::causes::Came;
-use crate::causes::put_answer;
+use crate::causes::tell_answer;
 use crate::causes::tell_cause;
 use crate::grants::Listed;
 use crate::grants::tell_compartments;
-use crate::lines::ROOM;
 use crate::lines::say;
 use crate::lines::tell;
-use crate::lines::write;
 use crate::offsets::tell_refusal;
 use machine::Processor;
 
@@ -64,34 +62,17 @@ fn came_from(strict: bool, bytes: &[u8], count: u32) -> Came {
 }
 
 fn tell_end(answer: u32, count: u32, pc: u32) -> bool {
-    let mut line = [0u8; ROOM];
-    let p = text::put_text(&mut line, 0, b"answer ");
-    let q = text::put_decimal(&mut line, p, answer);
-    let r = text::put_text(&mut line, q, b" after ");
-    let s = text::put_decimal(&mut line, r, count);
-    let t = text::put_text(&mut line, s, b" steps, at pc ");
-    let u = text::put_decimal(&mut line, t, pc);
-    let v = text::put_text(&mut line, u, b": ");
-    let x = put_answer(&mut line, v, answer);
-    let y = text::put_text(&mut line, x, b"\n");
-    write(&line, y)
-}
-
-fn put_lead(line: &mut [u8], told: bool) -> usize {
-    if told {
-        return text::put_text(line, 0, b", r");
-    }
-    text::put_text(line, 0, b"registers: r")
+    tell(b"answer # after # steps, at pc #: ", [answer, count, pc, 0])
+        && tell_answer(answer)
+        && say(b"\n")
 }
 
 // A register that is not 0, behind a comma where it is not the first.
-fn tell_one(told: bool, i: u32, value: u32) -> bool {
-    let mut line = [0u8; ROOM];
-    let p = put_lead(&mut line, told);
-    let q = text::put_decimal(&mut line, p, i);
-    let r = text::put_text(&mut line, q, b" = ");
-    let s = text::put_decimal(&mut line, r, value);
-    write(&line, s)
+fn tell_register(told: bool, i: u32, value: u32) -> bool {
+    if told {
+        return tell(b", r# = #", [i, value, 0, 0]);
+    }
+    tell(b"registers: r# = #", [i, value, 0, 0])
 }
 
 // Whether a register was told, and whether it could not be written.
@@ -101,7 +82,7 @@ fn list_registers(regs: &[u32; 16]) -> Listed {
     while i < 16 {
         let value = memory::word_at(regs, i);
         if value != 0 {
-            if !tell_one(told, i, value) {
+            if !tell_register(told, i, value) {
                 return Listed { told, failed: true };
             }
             told = true;
@@ -126,15 +107,7 @@ fn tell_registers(regs: &[u32; 16]) -> bool {
 }
 
 fn tell_word(x: u32, word: u32, was: u32) -> bool {
-    let mut line = [0u8; ROOM];
-    let p = text::put_text(&mut line, 0, b"word ");
-    let q = text::put_decimal(&mut line, p, x);
-    let r = text::put_text(&mut line, q, b" is ");
-    let s = text::put_decimal(&mut line, r, word);
-    let t = text::put_text(&mut line, s, b", and was ");
-    let u = text::put_decimal(&mut line, t, was);
-    let v = text::put_text(&mut line, u, b" in the image\n");
-    write(&line, v)
+    tell(b"word # is #, and was # in the image\n", [x, word, was, 0])
 }
 
 fn tell_changes(n: u32, words: &[u32], first: &[u32]) -> bool {
@@ -152,7 +125,7 @@ fn tell_changes(n: u32, words: &[u32], first: &[u32]) -> bool {
     true
 }
 
-fn status_of(answer: u32) -> u32 {
+pub(crate) fn status_of(answer: u32) -> u32 {
     match answer {
         0 => USED_UP,
         1 => HALTED,

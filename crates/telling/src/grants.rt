@@ -1,8 +1,7 @@
 // What a compartment owns and may do, as ranges of addresses.
-use crate::lines::ROOM;
 use crate::lines::say;
 use crate::lines::tell;
-use crate::lines::write;
+use crate::lines::tell_one;
 use compartments::Set;
 use machine::Processor;
 
@@ -60,26 +59,21 @@ fn has(
     }
 }
 
-// One range behind a text, a single address as itself.
-fn tell_range(lead: &[u8], first: u32, past: u32) -> bool {
-    let mut line = [0u8; ROOM];
-    let p = text::put_text(&mut line, 0, lead);
-    let q = text::put_decimal(&mut line, p, first);
+// One range, a single address as itself.
+fn tell_range(first: u32, past: u32) -> bool {
     let last = std::num::wrapping_sub_u32(past, 1);
     if last == first {
-        return write(&line, q);
+        return tell_one(b"#", first);
     }
-    let r = text::put_text(&mut line, q, b"-");
-    let s = text::put_decimal(&mut line, r, last);
-    write(&line, s)
+    tell(b"#-#", [first, last, 0, 0])
 }
 
 // A range behind a list's text, or behind a comma where it is not the first.
 fn tell_next(lead: &[u8], told: bool, first: u32, past: u32) -> bool {
     if told {
-        return tell_range(b", ", first, past);
+        return say(b", ") && tell_range(first, past);
     }
-    tell_range(lead, first, past)
+    say(lead) && tell_range(first, past)
 }
 
 // What came of a list: whether something was told, and whether it could not be written.
@@ -140,7 +134,7 @@ fn tell_compartment(
     writers: &[u64],
     readers: &[u64],
 ) -> bool {
-    if !tell(b"", c, b": owns ") {
+    if !tell_one(b"#: owns ", c) {
         return false;
     }
     let own = list(OWNS, c, b"", cpu, owners, jumpers, writers, readers);
@@ -243,7 +237,7 @@ fn tell_numbers(set: u64) -> bool {
 
 fn tell_number(told: bool, c: u32) -> bool {
     if told {
-        return tell(b", ", c, b"");
+        return tell_one(b", #", c);
     }
-    tell(b"", c, b"")
+    tell_one(b"#", c)
 }

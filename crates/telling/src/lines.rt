@@ -1,14 +1,16 @@
-// A line is put together in a buffer and written whole.
+// Sentences with numbers. A sentence is one text, a form, so that a function lends little: `#` stands in it for the next number in
+// decimal digits, `$` in hexadecimal ones, and `@` for the instruction that the next number is.
 use libc::STDERR_FILENO;
 use libc::STDOUT_FILENO;
+use memory::word_at;
 
-// The longest line that is put together here.
-pub(crate) const ROOM: usize = 240;
+// The longest text that is put together here.
+const ROOM: usize = 240;
 
-// Writes the front of a line to standard output; answers whether it was written.
-pub(crate) fn write(line: &[u8], n: usize) -> bool {
+// Writes the front of a line; answers whether it was written.
+fn write(fd: i32, line: &[u8], n: usize) -> bool {
     let k = streams::within(n, line);
-    let moved = streams::write_all(STDOUT_FILENO, &line[..k]);
+    let moved = streams::write_all(fd, &line[..k]);
     !moved.failed
 }
 
@@ -17,17 +19,8 @@ pub(crate) fn say(text: &[u8]) -> bool {
     !moved.failed
 }
 
-// A text, a number and a text.
-pub(crate) fn tell(before: &[u8], number: u32, after: &[u8]) -> bool {
-    let mut line = [0u8; ROOM];
-    let p = text::put_text(&mut line, 0, before);
-    let q = text::put_decimal(&mut line, p, number);
-    let r = text::put_text(&mut line, q, after);
-    write(&line, r)
-}
-
 // The text of one word: its instruction as the assembler spells it, or its number.
-pub(crate) fn put_word(line: &mut [u8], at: usize, word: u32) -> usize {
+fn put_word(line: &mut [u8], at: usize, word: u32) -> usize {
     let mut spelled = [0u8; 32];
     let d = disassembler::disassemble(&[word], &mut spelled);
     let n = streams::within(d.length, &spelled);
@@ -44,14 +37,83 @@ fn put_front(line: &mut [u8], at: usize, listed: &[u8]) -> usize {
     text::put_text(line, at, &listed[..k])
 }
 
+// What a byte of a form stands for.
+fn put_mark(line: &mut [u8], at: usize, mark: u8, number: u32) -> usize {
+    match mark {
+        b'#' => text::put_decimal(line, at, number),
+        b'$' => text::put_hexadecimal(line, at, number),
+        b'@' => put_word(line, at, number),
+        _ => text::put_text(line, at, &[mark]),
+    }
+}
+
+// How many numbers it takes.
+fn takes(mark: u8) -> u32 {
+    match mark {
+        b'#' => 1,
+        b'$' => 1,
+        b'@' => 1,
+        _ => 0,
+    }
+}
+
+fn tell_to(fd: i32, form: &[u8], numbers: [u32; 4]) -> bool {
+    let mut line = [0u8; ROOM];
+    let mut p = 0;
+    let mut k = 0;
+    let mut i = 0;
+    while i < form.len() {
+        let mark = form[i];
+        p = put_mark(&mut line, p, mark, word_at(&numbers, k));
+        k = std::num::wrapping_add_u32(k, takes(mark));
+        i += 1;
+    }
+    write(fd, &line, p)
+}
+
+// Writes a form with its numbers to standard output.
+pub(crate) fn tell(form: &[u8], numbers: [u32; 4]) -> bool {
+    tell_to(STDOUT_FILENO, form, numbers)
+}
+
+// The same of one number.
+pub(crate) fn tell_one(form: &[u8], number: u32) -> bool {
+    tell(form, [number, 0, 0, 0])
+}
+
+// A byte of the text that is meant; a bar is of none.
+fn put_part(line: &mut [u8], at: usize, mark: u8, meant: bool) -> usize {
+    if !meant {
+        return at;
+    }
+    if mark == b'|' {
+        return at;
+    }
+    text::put_text(line, at, &[mark])
+}
+
+fn bar(mark: u8) -> u32 {
+    if mark == b'|' { 1 } else { 0 }
+}
+
+// Writes text k of those that stand between bars.
+pub(crate) fn tell_nth(texts: &[u8], k: u32) -> bool {
+    let mut line = [0u8; ROOM];
+    let mut p = 0;
+    let mut bars = 0;
+    let mut i = 0;
+    while i < texts.len() {
+        let mark = texts[i];
+        p = put_part(&mut line, p, mark, bars == k);
+        bars = std::num::wrapping_add_u32(bars, bar(mark));
+        i += 1;
+    }
+    write(STDOUT_FILENO, &line, p)
+}
+
 // Says the status as the last line on standard error.
 pub(crate) fn end(status: u32) {
-    let mut line = [0u8; 20];
-    let p = text::put_text(&mut line, 0, b"status ");
-    let q = text::put_decimal(&mut line, p, status);
-    let r = text::put_text(&mut line, q, b"\n");
-    let k = streams::within(r, &line);
-    streams::write_all(STDERR_FILENO, &line[..k]);
+    tell_to(STDERR_FILENO, b"status #\n", [status, 0, 0, 0]);
 }
 
 // A sentence on standard error, for what could not be done.

@@ -1,6 +1,7 @@
 // Where in its bytes an image is refused: the field, and its offset.
-use crate::lines::ROOM;
-use crate::lines::write;
+use crate::lines::tell;
+use crate::lines::tell_nth;
+use crate::lines::tell_one;
 
 fn plus(a: u32, b: u32) -> u32 {
     std::num::wrapping_add_u32(a, b)
@@ -38,29 +39,63 @@ fn refused_field(answer: u32, length: usize, n: u32, k: u32) -> u32 {
     }
 }
 
-// The name of field i.
-fn put_field(line: &mut [u8], at: usize, i: u32, n: u32, k: u32) -> usize {
+// Which name field i has, with its number there: a word or a register has one.
+struct Named {
+    name: u32,
+    number: u32,
+}
+
+fn name_of(i: u32, n: u32, k: u32) -> Named {
+    let registers = plus(n, 1);
+    let count = plus(plus(n, k), 2);
     if i == 0 {
-        return text::put_text(line, at, b"the number of words");
+        return Named { name: 0, number: 0 };
     }
     if i <= n {
-        let p = text::put_text(line, at, b"word ");
-        return text::put_decimal(line, p, i - 1);
+        return Named {
+            name: 5,
+            number: i - 1,
+        };
     }
-    if i == plus(n, 1) {
-        return text::put_text(line, at, b"the number of registers");
+    if i == registers {
+        return Named { name: 1, number: 0 };
     }
-    if i <= plus(plus(n, k), 1) {
-        let p = text::put_text(line, at, b"register ");
-        return text::put_decimal(line, p, std::num::wrapping_sub_u32(i, plus(n, 2)));
+    if i < count {
+        return Named {
+            name: 6,
+            number: std::num::wrapping_sub_u32(i, plus(n, 2)),
+        };
     }
-    if i == plus(plus(n, k), 2) {
-        return text::put_text(line, at, b"the entry's count");
+    Named {
+        name: plus(2, std::num::wrapping_sub_u32(i, count)),
+        number: 0,
     }
-    if i == plus(plus(n, k), 3) {
-        return text::put_text(line, at, b"the entry");
+}
+
+fn tell_field(f: Named) -> bool {
+    let name = f.name;
+    match name {
+        5 => tell_one(b"word #", f.number),
+        6 => tell_one(b"register #", f.number),
+        _ => tell_nth(
+            b"the number of words|the number of registers|the entry's count|the entry|what is behind the entry",
+            name,
+        ),
     }
-    text::put_text(line, at, b"what is behind the entry")
+}
+
+// What is wrong with the field.
+fn tell_fault(answer: u32, offset: u32, length: u32, value: u32) -> bool {
+    if answer == answers::NOT_WHOLE {
+        return tell(
+            b", at byte #, is not whole: the image has # bytes\n",
+            [offset, length, 0, 0],
+        );
+    }
+    if answer == answers::BYTES_LEFT {
+        return tell_one(b", at byte #, is nothing of an image\n", offset);
+    }
+    tell(b", at byte #, is #\n", [offset, value, 0, 0])
 }
 
 // "refused R: FIELD, at byte OFFSET, is V"
@@ -68,25 +103,12 @@ pub(crate) fn tell_refusal(answer: u32, bytes: &[u8]) -> bool {
     let n = field(bytes, 0);
     let k = field(bytes, plus(n, 1));
     let i = refused_field(answer, bytes.len(), n, k);
-    let mut line = [0u8; ROOM];
-    let p = text::put_text(&mut line, 0, b"refused ");
-    let q = text::put_decimal(&mut line, p, answer);
-    let r = text::put_text(&mut line, q, b": ");
-    let s = put_field(&mut line, r, i, n, k);
-    let t = text::put_text(&mut line, s, b", at byte ");
-    let u = text::put_decimal(&mut line, t, 4 * (i % 65536));
-    if answer == answers::NOT_WHOLE {
-        let v = text::put_text(&mut line, u, b", is not whole: the image has ");
-        let x = text::put_decimal(&mut line, v, (bytes.len() % 1048576) as u32);
-        let y = text::put_text(&mut line, x, b" bytes\n");
-        return write(&line, y);
-    }
-    if answer == answers::BYTES_LEFT {
-        let v = text::put_text(&mut line, u, b", is nothing of an image\n");
-        return write(&line, v);
-    }
-    let v = text::put_text(&mut line, u, b", is ");
-    let x = text::put_decimal(&mut line, v, field(bytes, i));
-    let y = text::put_text(&mut line, x, b"\n");
-    write(&line, y)
+    tell_one(b"refused #: ", answer)
+        && tell_field(name_of(i, n, k))
+        && tell_fault(
+            answer,
+            4 * (i % 65536),
+            (bytes.len() % 1048576) as u32,
+            field(bytes, i),
+        )
 }

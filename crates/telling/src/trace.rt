@@ -1,52 +1,36 @@
 // A line for each step, written as it is made.
-use crate::causes::put_answer;
-use crate::explain::HALTED;
+use crate::causes::tell_answer;
 use crate::explain::NOT_TOLD;
 use crate::explain::REFUSED;
-use crate::explain::STOPPED;
 use crate::explain::USED_UP;
+use crate::explain::status_of;
 use crate::grants::OWNS;
 use crate::grants::list;
-use crate::lines::ROOM;
-use crate::lines::put_word;
 use crate::lines::say;
-use crate::lines::write;
+use crate::lines::tell;
+use crate::lines::tell_nth;
+use crate::lines::tell_one;
 use crate::offsets::tell_refusal;
 use machine::Processor;
 use memory::word_at;
 
-// The owner of a word, and its instruction.
-fn put_instruction(line: &mut [u8], at: usize, word: u32, owner: u32) -> usize {
-    let p = text::put_text(line, at, b" of ");
-    let q = text::put_decimal(line, p, owner);
-    let r = text::put_text(line, q, b": ");
-    put_word(line, r, word)
-}
-
-fn put_service(line: &mut [u8], at: usize, pc: u32) -> usize {
-    match pc {
-        modes::ISOLATE => text::put_text(line, at, b" isolate"),
-        modes::ADD_JUMP_TARGET => text::put_text(line, at, b" add jump target"),
-        modes::ADD_STORE_TARGET => text::put_text(line, at, b" add store target"),
-        modes::ADD_READ_TARGET => text::put_text(line, at, b" add read target"),
-        _ => text::put_text(line, at, b" is no place"),
-    }
-}
-
-fn put_what(line: &mut [u8], at: usize, cpu: Processor, words: &[u32], owners: &[u32]) -> usize {
-    let pc = cpu.pc;
-    if pc < cpu.n {
-        return put_instruction(line, at, word_at(words, pc), word_at(owners, pc));
-    }
-    put_service(line, at, pc)
-}
-
 // The step's number, pc, the owner and the instruction, or the service.
-fn put_head(line: &mut [u8], number: u32, cpu: Processor, words: &[u32], owners: &[u32]) -> usize {
-    let p = text::put_decimal(line, 0, number);
-    let q = text::put_text(line, p, b": ");
-    let r = text::put_decimal(line, q, cpu.pc);
-    put_what(line, r, cpu, words, owners)
+fn tell_head(number: u32, pc: u32, n: u32, owner: u32, word: u32) -> bool {
+    if pc < n {
+        return tell(b"#: # of #: @", [number, pc, owner, word]);
+    }
+    tell(b"#: #", [number, pc, 0, 0])
+        && tell_service(std::num::wrapping_sub_u32(pc, modes::ISOLATE))
+}
+
+fn tell_service(i: u32) -> bool {
+    if i < 4 {
+        return tell_nth(
+            b" isolate| add jump target| add store target| add read target",
+            i,
+        );
+    }
+    say(b" is no place")
 }
 
 // The first register that the step changed, or 16.
@@ -62,48 +46,37 @@ fn changed(was: &[u32; 16], is: &[u32; 16]) -> u32 {
 }
 
 // "; r2 = 7"
-fn put_register(line: &mut [u8], at: usize, was: &[u32; 16], is: &[u32; 16]) -> usize {
+fn tell_register(was: &[u32; 16], is: &[u32; 16]) -> bool {
     let i = changed(was, is);
     if i >= 16 {
-        return at;
+        return true;
     }
-    let p = text::put_text(line, at, b"; r");
-    let q = text::put_decimal(line, p, i);
-    let r = text::put_text(line, q, b" = ");
-    text::put_decimal(line, r, word_at(is, i))
+    tell(b"; r# = #", [i, word_at(is, i), 0, 0])
 }
 
 // "; [5] = 42" where the instruction was a Store.
-fn put_store(line: &mut [u8], at: usize, word: u32, regs: &[u32; 16]) -> usize {
+fn tell_store(word: u32, regs: &[u32; 16]) -> bool {
     let d = instructions::decode(word);
     if d.answer != answers::DONE {
-        return at;
+        return true;
     }
     if d.op != 9 {
-        return at;
+        return true;
     }
-    let p = text::put_text(line, at, b"; [");
-    let q = text::put_decimal(line, p, word_at(regs, d.a));
-    let r = text::put_text(line, q, b"] = ");
-    text::put_decimal(line, r, word_at(regs, d.b))
+    tell(b"; [#] = #", [word_at(regs, d.a), word_at(regs, d.b), 0, 0])
 }
 
 // What a step that ran changed, behind what it was.
-fn put_effect(line: &mut [u8], at: usize, before: Processor, after: Processor, word: u32) -> usize {
+fn tell_effect(before: Processor, after: Processor, word: u32) -> bool {
     let was = before.regs;
     let is = after.regs;
     if before.pc < before.n {
-        let p = put_store(line, at, word, &was);
-        return put_register(line, p, &was, &is);
+        return tell_store(word, &was) && tell_register(&was, &is);
     }
     if before.pc == modes::ISOLATE {
-        let p = text::put_text(line, at, b"; next ");
-        return text::put_decimal(line, p, after.next);
+        return tell_one(b"; next #", after.next);
     }
-    let p = text::put_text(line, at, b"; ");
-    let q = text::put_decimal(line, p, before.prev);
-    let r = text::put_text(line, q, b" joins ");
-    text::put_decimal(line, r, was[1])
+    tell(b"; # joins #", [before.prev, was[1], 0, 0])
 }
 
 // What the new compartment owns, where there is one.
@@ -131,6 +104,30 @@ fn tell_new(
     !own.failed
 }
 
+// A step that did not run.
+fn tell_stop(answer: u32) -> bool {
+    tell_one(b"; answer #: ", answer) && tell_answer(answer) && say(b"\n")
+}
+
+// What came of a step, behind what it was.
+fn tell_step(
+    answer: u32,
+    word: u32,
+    before: Processor,
+    after: Processor,
+    owners: &[u32],
+    jumpers: &[u64],
+    writers: &[u64],
+    readers: &[u64],
+) -> bool {
+    if answer != answers::DONE {
+        return tell_stop(answer);
+    }
+    tell_effect(before, after, word)
+        && tell_new(before, after, owners, jumpers, writers, readers)
+        && say(b"\n")
+}
+
 // Makes one step and tells it. What it came to: the record after it, its answer, and whether it was told.
 struct Traced {
     cpu: Processor,
@@ -147,47 +144,16 @@ fn trace_step(
     writers: &mut [u64],
     readers: &mut [u64],
 ) -> Traced {
-    let mut line = [0u8; ROOM];
-    let p = put_head(&mut line, number, cpu, words, owners);
     let word = word_at(words, cpu.pc);
+    let begun = tell_head(number, cpu.pc, cpu.n, word_at(owners, cpu.pc), word);
     let s = cpu.step(words, owners, jumpers, writers, readers);
     let answer = s.answer;
     let after = s.cpu;
-    if answer != answers::DONE {
-        let q = text::put_text(&mut line, p, b"; answer ");
-        let r = text::put_decimal(&mut line, q, answer);
-        let t = text::put_text(&mut line, r, b": ");
-        let u = put_answer(&mut line, t, answer);
-        let v = text::put_text(&mut line, u, b"\n");
-        let told = write(&line, v);
-        return Traced {
-            cpu: after,
-            answer,
-            told,
-        };
-    }
-    let q = put_effect(&mut line, p, cpu, after, word);
-    if !write(&line, q) {
-        return Traced {
-            cpu: after,
-            answer,
-            told: false,
-        };
-    }
-    let told = tell_new(cpu, after, owners, jumpers, writers, readers) && say(b"\n");
+    let told = begun && tell_step(answer, word, cpu, after, owners, jumpers, writers, readers);
     Traced {
         cpu: after,
         answer,
         told,
-    }
-}
-
-// How a trace ended, as a status.
-fn status_of(answer: u32) -> u32 {
-    match answer {
-        0 => USED_UP,
-        1 => HALTED,
-        _ => STOPPED,
     }
 }
 
