@@ -1,13 +1,13 @@
 // A sentence for each answer, with the numbers that `why` found.
 use crate::grants::jumpers_at;
 use crate::grants::tell_members;
-use crate::lines::say;
-use crate::lines::tell;
-use crate::lines::tell_nth;
-use crate::lines::tell_one;
 use machine::Processor;
 use memory::set_at;
 use memory::word_at;
+use sentences::lines::say;
+use sentences::lines::tell;
+use sentences::lines::tell_nth;
+use sentences::lines::tell_one;
 use why::Reason;
 
 // Where pc stood before the last step that ran, the word there and its owner; none where nothing ran.

@@ -4,10 +4,10 @@ use crate::causes::tell_answer;
 use crate::causes::tell_cause;
 use crate::grants::Listed;
 use crate::grants::tell_compartments;
-use crate::lines::say;
-use crate::lines::tell;
-use crate::offsets::tell_refusal;
 use machine::Processor;
+use sentences::lines::say;
+use sentences::lines::tell;
+use sentences::offsets::tell_refusal;
 
 // The statuses of a run: it halted, stopped, was refused, used its budget, or could not be told.
 pub const HALTED: u32 = 0;

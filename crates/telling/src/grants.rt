@@ -1,9 +1,9 @@
 // What a compartment owns and may do, as ranges of addresses.
-use crate::lines::say;
-use crate::lines::tell;
-use crate::lines::tell_one;
 use compartments::Set;
 use machine::Processor;
+use sentences::lines::say;
+use sentences::lines::tell;
+use sentences::lines::tell_one;
 
 // What is listed of a compartment.
 pub(crate) const OWNS: u32 = 0;

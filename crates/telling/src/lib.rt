@@ -2,16 +2,13 @@
 mod causes;
 pub mod explain;
 mod grants;
-mod lines;
-pub mod numbers;
-mod offsets;
 pub mod trace;
 
 use crate::explain::NOT_TOLD;
-use crate::lines::complain;
-use crate::lines::end;
-use crate::numbers::argument;
 use libc::STDIN_FILENO;
+use sentences::lines::complain;
+use sentences::lines::end;
+use sentences::numbers::argument;
 
 // The last line on standard error, and a sentence before it where something could not be written.
 fn ends(status: u32) {

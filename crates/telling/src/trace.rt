@@ -6,13 +6,13 @@ use crate::explain::USED_UP;
 use crate::explain::status_of;
 use crate::grants::OWNS;
 use crate::grants::list;
-use crate::lines::say;
-use crate::lines::tell;
-use crate::lines::tell_nth;
-use crate::lines::tell_one;
-use crate::offsets::tell_refusal;
 use machine::Processor;
 use memory::word_at;
+use sentences::lines::say;
+use sentences::lines::tell;
+use sentences::lines::tell_nth;
+use sentences::lines::tell_one;
+use sentences::offsets::tell_refusal;
 
 // The step's number, pc, the owner and the instruction, or the service.
 fn tell_head(number: u32, pc: u32, n: u32, owner: u32, word: u32) -> bool {

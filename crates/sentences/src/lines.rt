@@ -14,7 +14,7 @@ fn write(fd: i32, line: &[u8], n: usize) -> bool {
     !moved.failed
 }
 
-pub(crate) fn say(text: &[u8]) -> bool {
+pub fn say(text: &[u8]) -> bool {
     let moved = streams::write_all(STDOUT_FILENO, text);
     !moved.failed
 }
@@ -72,12 +72,12 @@ fn tell_to(fd: i32, form: &[u8], numbers: [u32; 4]) -> bool {
 }
 
 // Writes a form with its numbers to standard output.
-pub(crate) fn tell(form: &[u8], numbers: [u32; 4]) -> bool {
+pub fn tell(form: &[u8], numbers: [u32; 4]) -> bool {
     tell_to(STDOUT_FILENO, form, numbers)
 }
 
 // The same of one number.
-pub(crate) fn tell_one(form: &[u8], number: u32) -> bool {
+pub fn tell_one(form: &[u8], number: u32) -> bool {
     tell(form, [number, 0, 0, 0])
 }
 
@@ -97,7 +97,7 @@ fn bar(mark: u8) -> u32 {
 }
 
 // Writes text k of those that stand between bars.
-pub(crate) fn tell_nth(texts: &[u8], k: u32) -> bool {
+pub fn tell_nth(texts: &[u8], k: u32) -> bool {
     let mut line = [0u8; ROOM];
     let mut p = 0;
     let mut bars = 0;
@@ -112,11 +112,11 @@ pub(crate) fn tell_nth(texts: &[u8], k: u32) -> bool {
 }
 
 // Says the status as the last line on standard error.
-pub(crate) fn end(status: u32) {
+pub fn end(status: u32) {
     tell_to(STDERR_FILENO, b"status #\n", [status, 0, 0, 0]);
 }
 
 // A sentence on standard error, for what could not be done.
-pub(crate) fn complain(sentence: &[u8]) {
+pub fn complain(sentence: &[u8]) {
     streams::write_all(STDERR_FILENO, sentence);
 }

@@ -99,7 +99,7 @@ fn tell_fault(answer: u32, offset: u32, length: u32, value: u32) -> bool {
 }
 
 // "refused R: FIELD, at byte OFFSET, is V"
-pub(crate) fn tell_refusal(answer: u32, bytes: &[u8]) -> bool {
+pub fn tell_refusal(answer: u32, bytes: &[u8]) -> bool {
     let n = field(bytes, 0);
     let k = field(bytes, plus(n, 1));
     let i = refused_field(answer, bytes.len(), n, k);

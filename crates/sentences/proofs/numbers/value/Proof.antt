@@ -3,8 +3,8 @@ use Prim.Native.Nat.{_-_, _≤_}
 use native.Mathlib.Omega.{arith}
 use lib.ListN.{length}
 use borrow.Author.Needs.{needs}
-use Rattle.telling.proofs.numbers.value.Statement.{statement}
-use Rattle.telling.proofs.numbers.value.Tie as tie
+use Rattle.sentences.proofs.numbers.value.Statement.{statement}
+use Rattle.sentences.proofs.numbers.value.Tie as tie
 
 abbrev Inv-loop : tie.InvT-loop
 Inv-loop digits number₀ i₀ number i = i ≤ length digits

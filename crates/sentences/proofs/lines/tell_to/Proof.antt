@@ -3,8 +3,8 @@ use mathlib.Core.Path.{_≡_}
 use Prim.Native.Nat.{_-_, _≤_}
 use lib.ListN.{length}
 use borrow.Author.Needs.{needs}
-use Rattle.telling.proofs.lines.tell_to.Statement.{statement}
-use Rattle.telling.proofs.lines.tell_to.Tie as tie
+use Rattle.sentences.proofs.lines.tell_to.Statement.{statement}
+use Rattle.sentences.proofs.lines.tell_to.Tie as tie
 
 abbrev Inv-loop : tie.InvT-loop
 Inv-loop fd form numbers line₀ p₀ k₀ i₀ line p k i = (i ≤ length form) × (length line ≡ 240)
