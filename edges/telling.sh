@@ -1,4 +1,4 @@
-# Checks of card explain and card trace: their statuses, their words, and output that cannot be written.
+# Checks of card explain, card trace and card map: their statuses, their words, and output that cannot be written.
 # shellcheck shell=bash disable=SC2016,SC2154
 
 explain_status() { # FILE STATUS FIRST-WORDS
@@ -34,6 +34,48 @@ untold() { # COMMAND FILE
     says "the text could not be written"
 }
 
+map_status() { # FILE STATUS FIRST-WORDS
+    attempt "$card" map "$1"
+    ends_with "$2"
+    case $out in "$3"*) ;; *) wrong "it should write '$3', and wrote: $out" ;; esac
+}
+
+map_refuses() {
+    attempt "$card" map "$root/README.md"
+    ends_with 2
+    says "README.md: 21: "
+    writes ''
+}
+
+# A picture has the status of its run, says nothing, and is whole.
+draws_picture() {
+    attempt "$card" map --svg "$room/map.svg" "$root/samples/makers.img"
+    ends_with 1
+    writes ''
+    [ "$(tail -n 1 "$room/map.svg")" = '</svg>' ] || wrong "the picture is not whole"
+    [ "$(grep -c '<title>word ' "$room/map.svg")" -eq 34 ] || wrong "the picture should have 34 words"
+}
+
+# An old picture stays where the image is refused, and where there is no room.
+old_picture_stays() { # FILE STATUS
+    printf 'old\n' >"$room/old.svg"
+    attempt "$card" map --svg "$room/old.svg" "$1"
+    ends_with "$2"
+    [ "$(cat "$room/old.svg")" = old ] || wrong "the old picture is gone"
+}
+
+picture_on_full_device() {
+    attempt "$card" map --svg /dev/full "$root/samples/one.img"
+    ends_with 4
+    says "/dev/full could not be written"
+}
+
+map_is_read_in_part() {
+    attempt bash -c '{ sleep 1; "$0" map "$1"; } | :; exit "${PIPESTATUS[0]}"' "$card" "$root/samples/makers.img"
+    ends_with 4
+    says "the map could not be written"
+}
+
 telling_checks() {
     check explain_status "$root/samples/makers.kl" 1 'answer 7 after 22 steps, at pc 15' -- "explain tells a stop, of a source"
     check explain_status "$root/samples/one.img" 1 'answer 16 after 3 steps, at pc 3: a stray bit' -- "explain tells a stray bit"
@@ -48,4 +90,15 @@ telling_checks() {
     check refuses_words explain --budget "$root/samples/one.img" -- "a budget is a whole number"
     check refuses_words explain --budget 4294967296 "$root/samples/one.img" -- "a budget has 32 bits"
     check refuses_words trace --budget 1 "$root/samples/one.img" -- "trace has no budget"
+    check map_status "$root/samples/makers.kl" 1 'answer 7 after 22 steps, at pc 15; N = 34' -- "map draws a stop, of a source"
+    check map_status "$root/samples/lesson.img" 0 'answer 1 after ' -- "map draws a Halt"
+    check map_refuses -- "map says why an image is refused, and draws nothing"
+    check draws_picture -- "map writes a picture"
+    check old_picture_stays "$root/README.md" 2 -- "a refused image leaves an old picture as it was"
+    check old_picture_stays "$room/none.img" 4 -- "an image that is not there leaves an old picture as it was"
+    check picture_on_full_device -- "a picture on a full device"
+    check map_is_read_in_part -- "a map whose reader goes away ends with 4"
+    check refuses_words map -- "map takes a FILE"
+    check refuses_words map "$root/samples/one.img" --svg -- "a picture goes into a FILE"
+    check refuses_words map --steps 1 "$root/samples/one.img" -- "map has no number of steps"
 }

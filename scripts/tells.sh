@@ -1,4 +1,4 @@
-# card explain and card trace: what happened in a run, in words and step by step.
+# card explain, card trace and card map: what happened in a run, in words, step by step, and as a map of its memory.
 # shellcheck shell=bash disable=SC2154
 
 number_most=4294967295
@@ -64,5 +64,49 @@ trace_image() { # [--from K] [--steps M] [--strict] FILE
     stream card_trace "${given[--from]}" "${given[--steps]}" "$mode"
     verdict || came=$?
     [ "$came" -ne 4 ] || failed card_trace "${files[0]}"
+    finish "$came"
+}
+
+# Takes --svg FILE out of the words of card map, into `picture`; the others go into `words`.
+take_picture() { # WORDS...
+    picture='' words=()
+    while [ $# -gt 0 ]; do
+        if [ "$1" = --svg ]; then
+            [ -n "${2-}" ] || missing "map: --svg takes a FILE, '-' for standard output" "'card help' lists the commands"
+            picture=$2
+            shift
+        else
+            words+=("$1")
+        fi
+        shift
+    done
+}
+
+# Ends where the map program did not draw: a refused image, or one that could not be drawn.
+judge_map() { # FILE
+    came=0
+    verdict || came=$?
+    case $came in
+    2) refuse_image "$1" "$(sed -n 's/^refused \([0-9]*\)$/\1/p' "$room/said")" ;;
+    4) failed card_map "$1" ;;
+    esac
+}
+
+map_image() { # [--svg FILE] [--budget N] [--strict] FILE
+    local -A given=([--budget]=100000)
+    local mode files picture words came
+    take_picture "$@"
+    take_words map "--budget" "${words[@]}"
+    case $picture in '' | -) need_output ;; esac
+    find_room
+    take_image "${files[0]}"
+    if [ -n "$picture" ]; then
+        launch_on card_map image picture "${given[--budget]}" "$mode" 1
+        judge_map "${files[0]}"
+        put picture "$picture"
+    else
+        stream card_map "${given[--budget]}" "$mode" 0
+        judge_map "${files[0]}"
+    fi
     finish "$came"
 }
