@@ -19,7 +19,9 @@ pub(crate) fn say_characters() -> bool {
 pub(crate) fn say_meaning(kind: u32) -> bool {
     match kind {
         PC => say(b"pc: where the run ended"),
-        JUMP => say(b"jump: a word that a compartment, no service, was granted to jump to"),
+        JUMP => say(
+            b"jump: a word that a compartment was granted to jump to; the services may return to every word",
+        ),
         STORE => say(b"store: a word that a compartment was granted to store to"),
         _ => say(b"read: a word that a compartment was granted to load from"),
     }

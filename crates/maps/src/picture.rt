@@ -7,6 +7,7 @@ use crate::legend::say_characters;
 use crate::legend::say_meaning;
 use crate::legend::tell_count;
 use crate::legend::tell_end;
+use crate::places::ENTRY;
 use crate::places::ROW;
 use crate::places::cell_place;
 use crate::places::entry_place;
@@ -30,9 +31,6 @@ use machine::Ran;
 const LEFT: u32 = 48;
 
 const TOP: u32 = 52;
-
-// The room of one owner in the legend.
-const ENTRY: u32 = 170;
 
 // The picture's measures.
 struct Frame {

@@ -103,9 +103,9 @@ pub(crate) fn say_mark(kind: u32) -> bool {
         PC => say(
             b"<path class='p' d='M1.5 1.5H16.5V16.5H1.5Z'/><path class='q' d='M3.5 3.5H14.5V14.5H3.5Z'/>",
         ),
-        JUMP => say(b"<path class='m' d='M0 0H8L0 8Z'/>"),
-        STORE => say(b"<path class='m' d='M12 12H18V18H12Z'/>"),
-        _ => say(b"<circle class='m' cx='3.5' cy='14.5' r='3.5'/>"),
+        JUMP => say(b"<path class='m' d='M1 1H8.5L1 8.5Z'/>"),
+        STORE => say(b"<path class='m' d='M11.5 11.5H17V17H11.5Z'/>"),
+        _ => say(b"<circle class='m' cx='4' cy='14' r='3'/>"),
     }
 }
 
