@@ -56,7 +56,7 @@ draws_picture() {
     [ "$(grep -c '<title>word ' "$room/map.svg")" -eq 34 ] || wrong "the picture should have 34 words"
 }
 
-# An old picture stays where the image is refused, and where there is no room.
+# An old picture stays where no new one can be drawn.
 old_picture_stays() { # FILE STATUS
     printf 'old\n' >"$room/old.svg"
     attempt "$card" map --svg "$room/old.svg" "$1"
@@ -68,6 +68,15 @@ picture_on_full_device() {
     attempt "$card" map --svg /dev/full "$root/samples/one.img"
     ends_with 4
     says "/dev/full could not be written"
+}
+
+# A new picture where there is no room: the old file stays, and nothing else is left.
+picture_on_full_disk() {
+    small_disk 0
+    attempt "$card" map --svg "$disk/out" "$root/samples/one.img"
+    could_not "and is as it was"
+    [ "$(ls "$disk")" = out ] || wrong "something is left on the disk: $(ls "$disk")"
+    [ "$(tr -d '\000' <"$disk/out" | wc -c)" -eq 0 ] || wrong "the old picture was changed"
 }
 
 map_is_read_in_part() {
@@ -97,6 +106,7 @@ telling_checks() {
     check old_picture_stays "$root/README.md" 2 -- "a refused image leaves an old picture as it was"
     check old_picture_stays "$room/none.img" 4 -- "an image that is not there leaves an old picture as it was"
     check picture_on_full_device -- "a picture on a full device"
+    check picture_on_full_disk -- "a picture on a full disk leaves the old one as it was"
     check map_is_read_in_part -- "a map whose reader goes away ends with 4"
     check refuses_words map -- "map takes a FILE"
     check refuses_words map "$root/samples/one.img" --svg -- "a picture goes into a FILE"
