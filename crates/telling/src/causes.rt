@@ -1,6 +1,6 @@
 // A sentence for each answer, with the numbers that `why` found.
-use crate::grants::jumpers_at;
-use crate::grants::tell_members;
+use grants::jumpers_at;
+use grants::tell_members;
 use machine::Processor;
 use memory::set_at;
 use memory::word_at;

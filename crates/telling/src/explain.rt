@@ -2,8 +2,8 @@
 use crate::causes::Came;
 use crate::causes::tell_answer;
 use crate::causes::tell_cause;
-use crate::grants::Listed;
-use crate::grants::tell_compartments;
+use grants::Listed;
+use grants::tell_compartments;
 use machine::Processor;
 use sentences::lines::say;
 use sentences::lines::tell;

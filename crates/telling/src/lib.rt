@@ -1,7 +1,6 @@
 // What explain, trace and map tell of an image in words. The facts come from calls whose promises are whole; the wording has no contract.
 mod causes;
 pub mod explain;
-mod grants;
 pub mod trace;
 
 use crate::explain::NOT_TOLD;

@@ -1,8 +1,8 @@
 -- The compartments before c were told.
 use Prim.Native.Nat.{_-_, _≤_}
 use native.Mathlib.Omega.{arith}
-use Rattle.telling.proofs.grants.tell_compartments.Statement.{statement}
-use Rattle.telling.proofs.grants.tell_compartments.Tie as tie
+use Rattle.grants.proofs.tell_compartments.Statement.{statement}
+use Rattle.grants.proofs.tell_compartments.Tie as tie
 
 abbrev Inv-loop : tie.InvT-loop
 Inv-loop cpu owners jumpers writers readers next c₀ c = c ≤ next

@@ -1,8 +1,8 @@
 -- The numbers before c were looked at.
 use Prim.Native.Nat.{_-_, _≤_}
 use native.Mathlib.Omega.{arith}
-use Rattle.telling.proofs.grants.tell_numbers.Statement.{statement}
-use Rattle.telling.proofs.grants.tell_numbers.Tie as tie
+use Rattle.grants.proofs.tell_numbers.Statement.{statement}
+use Rattle.grants.proofs.tell_numbers.Tie as tie
 
 abbrev Inv-loop : tie.InvT-loop
 Inv-loop set told₀ c₀ told c = c ≤ 64

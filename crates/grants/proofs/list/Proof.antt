@@ -1,8 +1,8 @@
 -- The addresses before x were looked at.
 use Prim.Native.Nat.{_-_, _≤_}
 use native.Mathlib.Omega.{arith}
-use Rattle.telling.proofs.grants.list.Statement.{statement}
-use Rattle.telling.proofs.grants.list.Tie as tie
+use Rattle.grants.proofs.list.Statement.{statement}
+use Rattle.grants.proofs.list.Tie as tie
 
 abbrev Inv-loop : tie.InvT-loop
 Inv-loop kind c lead cpu owners jumpers writers readers told₀ open₀ first₀ x₀ told «open» first x = x ≤ 4100

@@ -6,19 +6,19 @@ use sentences::lines::tell;
 use sentences::lines::tell_one;
 
 // What is listed of a compartment.
-pub(crate) const OWNS: u32 = 0;
+pub const OWNS: u32 = 0;
 
-pub(crate) const JUMPS: u32 = 1;
+pub const JUMPS: u32 = 1;
 
-pub(crate) const STORES: u32 = 2;
+pub const STORES: u32 = 2;
 
-pub(crate) const READS: u32 = 3;
+pub const READS: u32 = 3;
 
 // The last service is at 4099.
 const PAST: u32 = 4100;
 
 // The set I of a word or of a service, and the empty set elsewhere.
-pub(crate) fn jumpers_at(cpu: Processor, jumpers: &[u64], x: u32) -> u64 {
+pub fn jumpers_at(cpu: Processor, jumpers: &[u64], x: u32) -> u64 {
     if x < cpu.n {
         return memory::set_at(jumpers, x);
     }
@@ -77,13 +77,13 @@ fn tell_next(lead: &[u8], told: bool, first: u32, past: u32) -> bool {
 }
 
 // What came of a list: whether something was told, and whether it could not be written.
-pub(crate) struct Listed {
-    pub(crate) told: bool,
-    pub(crate) failed: bool,
+pub struct Listed {
+    pub told: bool,
+    pub failed: bool,
 }
 
 // The addresses of one kind as ranges, behind a text; nothing where there is none.
-pub(crate) fn list(
+pub fn list(
     kind: u32,
     c: u32,
     lead: &[u8],
@@ -191,7 +191,7 @@ fn tell_compartment(
 }
 
 // A line for each compartment below next.
-pub(crate) fn tell_compartments(
+pub fn tell_compartments(
     cpu: Processor,
     owners: &[u32],
     jumpers: &[u64],
@@ -210,7 +210,7 @@ pub(crate) fn tell_compartments(
 }
 
 // The numbers in a set, or nobody.
-pub(crate) fn tell_members(lead: &[u8], set: u64) -> bool {
+pub fn tell_members(lead: &[u8], set: u64) -> bool {
     if !say(lead) {
         return false;
     }
