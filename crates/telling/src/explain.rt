@@ -1,7 +1,7 @@
 // How a run ended, in plain words with every number that matters.
-use crate::causes::Came;
-use crate::causes::tell_answer;
-use crate::causes::tell_cause;
+use causes::Came;
+use causes::tell_answer;
+use causes::tell_cause;
 use grants::Listed;
 use grants::tell_compartments;
 use machine::Processor;

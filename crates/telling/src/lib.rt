@@ -1,5 +1,4 @@
 // What explain, trace and map tell of an image in words. The facts come from calls whose promises are whole; the wording has no contract.
-mod causes;
 pub mod explain;
 pub mod trace;
 

@@ -1,9 +1,9 @@
 // A line for each step, written as it is made.
-use crate::causes::tell_answer;
 use crate::explain::NOT_TOLD;
 use crate::explain::REFUSED;
 use crate::explain::USED_UP;
 use crate::explain::status_of;
+use causes::tell_answer;
 use grants::OWNS;
 use grants::list;
 use machine::Processor;

@@ -18,7 +18,7 @@ pub struct Came {
 }
 
 // What the answer is, in a sentence.
-pub(crate) fn tell_answer(answer: u32) -> bool {
+pub fn tell_answer(answer: u32) -> bool {
     if answer < 8 {
         return tell_nth(
             b"the budget is used|Halt|pc is neither a memory word nor a service|no such opcode: the word is probably data|arrival is not allowed|a Load from an address outside memory|a Store to an address outside memory|a Store that is not allowed",
@@ -192,7 +192,7 @@ fn tell_other(w: Reason, caller: u32) -> bool {
 }
 
 // The cause of an answer, in lines of their own.
-pub(crate) fn tell_cause(
+pub fn tell_cause(
     w: Reason,
     cpu: Processor,
     words: &[u32],
