@@ -1,13 +1,13 @@
 // A sentence for each answer, with the numbers that `why` found.
 use grants::jumpers_at;
 use grants::tell_members;
+use lines::say;
 use machine::Processor;
 use memory::set_at;
 use memory::word_at;
-use sentences::lines::say;
-use sentences::lines::tell;
-use sentences::lines::tell_nth;
-use sentences::lines::tell_one;
+use sentences::forms::tell;
+use sentences::forms::tell_nth;
+use sentences::forms::tell_one;
 use why::Reason;
 
 // Where pc stood before the last step that ran, the word there and its owner; none where nothing ran.

@@ -1,9 +1,9 @@
 // What a compartment owns and may do, as ranges of addresses.
 use compartments::Set;
+use lines::say;
 use machine::Processor;
-use sentences::lines::say;
-use sentences::lines::tell;
-use sentences::lines::tell_one;
+use sentences::forms::tell;
+use sentences::forms::tell_one;
 
 // What is listed of a compartment.
 pub const OWNS: u32 = 0;

@@ -1,4 +1,3 @@
-// Sentences with numbers, the field that an image is refused for, and a program's numbers. The wording has no contract.
-pub mod lines;
-pub mod numbers;
+// Sentences with numbers, and the field that an image is refused for. The wording has no contract.
+pub mod forms;
 pub mod offsets;

@@ -1,7 +1,7 @@
 // Where in its bytes an image is refused: the field, and its offset.
-use crate::lines::tell;
-use crate::lines::tell_nth;
-use crate::lines::tell_one;
+use crate::forms::tell;
+use crate::forms::tell_nth;
+use crate::forms::tell_one;
 
 fn plus(a: u32, b: u32) -> u32 {
     std::num::wrapping_add_u32(a, b)

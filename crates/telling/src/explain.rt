@@ -4,9 +4,9 @@ use causes::tell_answer;
 use causes::tell_cause;
 use grants::Listed;
 use grants::tell_compartments;
+use lines::say;
 use machine::Processor;
-use sentences::lines::say;
-use sentences::lines::tell;
+use sentences::forms::tell;
 use sentences::offsets::tell_refusal;
 
 // The statuses of a run: it halted, stopped, was refused, used its budget, or could not be told.

@@ -4,9 +4,9 @@ pub mod trace;
 
 use crate::explain::NOT_TOLD;
 use libc::STDIN_FILENO;
-use sentences::lines::complain;
-use sentences::lines::end;
-use sentences::numbers::argument;
+use lines::complain;
+use lines::end;
+use lines::numbers::argument;
 
 // The last line on standard error, and a sentence before it where something could not be written.
 fn ends(status: u32) {

@@ -6,12 +6,12 @@ use crate::explain::status_of;
 use causes::tell_answer;
 use grants::OWNS;
 use grants::list;
+use lines::say;
 use machine::Processor;
 use memory::word_at;
-use sentences::lines::say;
-use sentences::lines::tell;
-use sentences::lines::tell_nth;
-use sentences::lines::tell_one;
+use sentences::forms::tell;
+use sentences::forms::tell_nth;
+use sentences::forms::tell_one;
 use sentences::offsets::tell_refusal;
 
 // The step's number, pc, the owner and the instruction, or the service.

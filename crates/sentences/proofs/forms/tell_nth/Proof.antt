@@ -3,8 +3,8 @@ use mathlib.Core.Path.{_≡_}
 use Prim.Native.Nat.{_-_, _≤_}
 use lib.ListN.{length}
 use borrow.Author.Needs.{needs}
-use Rattle.sentences.proofs.lines.tell_nth.Statement.{statement}
-use Rattle.sentences.proofs.lines.tell_nth.Tie as tie
+use Rattle.sentences.proofs.forms.tell_nth.Statement.{statement}
+use Rattle.sentences.proofs.forms.tell_nth.Tie as tie
 
 abbrev Inv-loop : tie.InvT-loop
 Inv-loop texts k line₀ p₀ bars₀ i₀ line p bars i = (i ≤ length texts) × (length line ≡ 240)

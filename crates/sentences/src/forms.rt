@@ -1,23 +1,10 @@
 // Sentences with numbers. A sentence is one text, a form, so that a function lends little: `#` stands in it for the next number in
 // decimal digits, `$` in hexadecimal ones, and `@` for the instruction that the next number is.
-use libc::STDERR_FILENO;
-use libc::STDOUT_FILENO;
+use lines::write;
 use memory::word_at;
 
 // The longest text that is put together here.
 const ROOM: usize = 240;
-
-// Writes the front of a line; answers whether it was written.
-fn write(fd: i32, line: &[u8], n: usize) -> bool {
-    let k = streams::within(n, line);
-    let moved = streams::write_all(fd, &line[..k]);
-    !moved.failed
-}
-
-pub fn say(text: &[u8]) -> bool {
-    let moved = streams::write_all(STDOUT_FILENO, text);
-    !moved.failed
-}
 
 // The text of one word: its instruction as the assembler spells it, or its number.
 fn put_word(line: &mut [u8], at: usize, word: u32) -> usize {
@@ -57,7 +44,8 @@ fn takes(mark: u8) -> u32 {
     }
 }
 
-fn tell_to(fd: i32, form: &[u8], numbers: [u32; 4]) -> bool {
+// Writes a form with its numbers to standard output.
+pub fn tell(form: &[u8], numbers: [u32; 4]) -> bool {
     let mut line = [0u8; ROOM];
     let mut p = 0;
     let mut k = 0;
@@ -68,12 +56,7 @@ fn tell_to(fd: i32, form: &[u8], numbers: [u32; 4]) -> bool {
         k = std::num::wrapping_add_u32(k, takes(mark));
         i += 1;
     }
-    write(fd, &line, p)
-}
-
-// Writes a form with its numbers to standard output.
-pub fn tell(form: &[u8], numbers: [u32; 4]) -> bool {
-    tell_to(STDOUT_FILENO, form, numbers)
+    write(&line, p)
 }
 
 // The same of one number.
@@ -108,15 +91,5 @@ pub fn tell_nth(texts: &[u8], k: u32) -> bool {
         bars = std::num::wrapping_add_u32(bars, bar(mark));
         i += 1;
     }
-    write(STDOUT_FILENO, &line, p)
-}
-
-// Says the status as the last line on standard error.
-pub fn end(status: u32) {
-    tell_to(STDERR_FILENO, b"status #\n", [status, 0, 0, 0]);
-}
-
-// A sentence on standard error, for what could not be done.
-pub fn complain(sentence: &[u8]) {
-    streams::write_all(STDERR_FILENO, sentence);
+    write(&line, p)
 }
