@@ -20,6 +20,13 @@ traces_part() {
 21: 14 of 0: Const 33 r6; r6 = 33'
 }
 
+# A run that ends before the first step that is asked for is told by the step that ended it.
+traces_past_the_end() {
+    attempt "$card" trace --from 100 "$root/samples/one.img"
+    ends_with 1
+    case $out in '3: 3 of 0: 0x00000007; answer 16:'*) ;; *) wrong "it wrote: $out" ;; esac
+}
+
 # The first lines of a long trace are there before it ends, and a reader that goes away ends it.
 trace_is_read_in_part() {
     attempt bash -c '"$0" trace "$1" | head -n 2; exit "${PIPESTATUS[0]}"' "$card" "$room/loop.kl"
@@ -92,6 +99,7 @@ telling_checks() {
     check explain_status "$root/README.md" 2 'refused 21: the number of words, at byte 0' -- "explain tells the field of a refused image"
     check explain_budget -- "explain takes a budget"
     check traces_part -- "trace takes its first step and how many"
+    check traces_past_the_end -- "trace from behind the end tells the step that ended the run"
     check trace_is_read_in_part -- "a trace whose reader goes away ends with 4"
     check untold explain "$root/samples/one.img" -- "explain on a full device"
     check untold trace "$root/samples/one.img" -- "trace on a full device"

@@ -186,7 +186,8 @@ fn trace_steps(
     USED_UP
 }
 
-// Traces an image's run in a mode: the first `from` steps are made and not told, then at most `steps` are; answers its status.
+// Traces an image's run in a mode: the first `from` steps are made and not told, then at most `steps` are; answers its status. A run that
+// ends before `from` is told by the step that ended it.
 pub fn trace(strict: bool, bytes: &[u8], from: u32, steps: u32) -> u32 {
     let mut words = [0u32; 2048];
     let mut owners = [0u32; 2048];
@@ -217,11 +218,8 @@ pub fn trace(strict: bool, bytes: &[u8], from: u32, steps: u32) -> u32 {
         &mut readers,
         from,
     );
-    if r.answer != answers::DONE {
-        return status_of(r.answer);
-    }
     trace_steps(
-        from,
+        r.count,
         steps,
         r.cpu,
         &mut words,
