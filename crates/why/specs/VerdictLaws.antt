@@ -18,14 +18,12 @@ use Rattle.rules.specs.Step.{Stepped, step}
 use Rattle.rules.specs.Laws.Tested.{formed, badOwner, arrives, isolateVerdict, addVerdict, serviceVerdict, tested}
 use Rattle.rules.specs.Laws.TestedRows.{verdict-tested}
 use Rattle.rules.specs.Laws.FormLaws.{n-most, numbers-good}
-use Rattle.rights.specs.Arrivals.{prevOf, jumpedOf, unasked, unasked-far, unasked-prev, unasked-jumped}
-use Rattle.moves.specs.declared.Move.{Move}
-use Rattle.moves.specs.Moves.{moveFrom, home-move}
 use Rattle.moves.specs.Applied.{moveAt, move-stops, move-runs}
 use Rattle.reach.specs.Called.{called}
 use Rattle.reach.specs.ReachLaws.{same-owns}
 use Rattle.service.specs.ServiceLaws.{arrivesBy, arrives-is}
 use Rattle.form.specs.Form.{formOf, formed-by}
+use Rattle.why.specs.WordLaws.{placeAnswer, place-is}
 
 -- ---- an add
 
@@ -120,27 +118,15 @@ module _ (s : State) (t : Bool) (e : t ≡ formOf s) where
         go true k = simp (is-formed, out, k, arrives-is s is-formed l k (gateOf s) refl)
 
     -- at a memory word
-    pub at-word : s .cpu .pc < s .cpu .n → (arrival : ℕ) → arrival ≡ unasked (s .cpu .prev) (s .cpu .jumped) → (m : Move)
-        → m ≡ moveFrom arrival (s .cpu .regs) (s .cpu .pc) (s .cpu .next) (s .cpu .strict) (s .cpu .n) (s .words) (s .owners) (s .jumpers) (s .writers) (s .readers)
-        → m .answer ≡ verdict s
+    pub at-word : s .cpu .pc < s .cpu .n → (r : ℕ)
+        → r ≡ placeAnswer (s .cpu .regs) (s .cpu .pc) (s .cpu .prev) (s .cpu .jumped) (s .cpu .next) (s .cpu .strict) (s .cpu .n) (s .words) (s .owners) (s .jumpers) (s .writers) (s .readers)
+        → r ≡ verdict s
     unfolding step
-    at-word l arrival a m q = go (eqb (m .answer) answer.done) refl
+    at-word l r q = q ∙ sym (place-is (s .cpu .regs) (s .cpu .pc) (s .cpu .prev) (s .cpu .jumped) (s .cpu .next) (s .cpu .strict) (s .cpu .n) (s .words) (s .owners) (s .jumpers) (s .writers) (s .readers)) ∙ go (eqb (moveAt s .answer) answer.done) refl
       where
-        p : s .cpu .prev < 4294967296
-        p = let k = numbers-good s is-formed in let h : s .cpu .next ≤ 64 = k .high in let l : s .cpu .prev < s .cpu .next = k .prev in omega arith
-
-        ep : prevOf arrival ≡ s .cpu .prev
-        ep = ap prevOf a ∙ unasked-prev (s .cpu .prev) p (s .cpu .jumped)
-
-        ej : jumpedOf arrival ≡ s .cpu .jumped
-        ej = ap jumpedOf a ∙ unasked-jumped (s .cpu .prev) p (s .cpu .jumped)
-
-        is : m ≡ moveAt s
-        is = simp (← ep, ← ej) (q ∙ home-move arrival (s .cpu .regs) (s .cpu .pc) (s .cpu .next) (s .cpu .strict) (s .cpu .n) (s .words) (s .owners) (s .jumpers) (s .writers) (s .readers) (λ h. absurd (unasked-far (s .cpu .prev) (s .cpu .jumped) (subst (λ (a : ℕ). a < 4294967296) a h))))
-
         small : s .cpu .n ≤ 4294967295
         small = let k = n-most s is-formed in omega arith
 
-        go : (b : Bool) → eqb (m .answer) answer.done ≡ b → m .answer ≡ verdict s
-        go true k = let z = eqb-true (m .answer) answer.done k in z ∙ ap (λ (o : Stepped). o .answer) (move-runs s is-formed l small m is z)
-        go false k = ap (λ (o : Stepped). o .answer) (move-stops s is-formed l small m is (eqb-false _ _ k))
+        go : (b : Bool) → eqb (moveAt s .answer) answer.done ≡ b → moveAt s .answer ≡ verdict s
+        go true k = let z = eqb-true (moveAt s .answer) answer.done k in z ∙ ap (λ (o : Stepped). o .answer) (move-runs s is-formed l small (moveAt s) refl z)
+        go false k = ap (λ (o : Stepped). o .answer) (move-stops s is-formed l small (moveAt s) refl (eqb-false _ _ k))

@@ -3,6 +3,7 @@ mod form_fault;
 mod places;
 mod sets;
 mod verdict;
+mod word_answers;
 
 ghost use mathlib.Core.Path.{_≡_};
 ghost use mathlib.Core.List.{[]};

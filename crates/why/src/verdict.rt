@@ -6,8 +6,8 @@ ghost use Rattle.rules.specs.Laws.Tested.{addVerdict};
 ghost use Rattle.machine.specs.Views.{stateOf};
 ghost use Rattle.reach.specs.Called.{called};
 ghost use Rattle.why.specs.VerdictLaws.{serviceAnswer};
+use crate::word_answers::place_answer;
 use machine::Processor;
-use rights::arrival;
 
 // The checks of the three calls that add a target.
 fn add_verdict(regs: &[u32; 16], strict: bool, n: u32, caller: u32, owners: &[u32]) -> u32
@@ -97,12 +97,12 @@ pub(crate) fn verdict(
     if n <= pc {
         return service_verdict(cpu, words, owners, jumpers, writers, readers);
     }
-    let arrival = arrival::unasked(prev, cpu.jumped);
     let regs = cpu.regs;
-    let m = moves::decide(
+    place_answer(
         &regs,
         pc,
-        arrival,
+        prev,
+        cpu.jumped,
         next,
         strict,
         n,
@@ -111,6 +111,5 @@ pub(crate) fn verdict(
         jumpers,
         writers,
         readers,
-    );
-    m.answer
+    )
 }
