@@ -14,7 +14,7 @@ use values::Fitted;
 const MOST: usize = 2048;
 
 // Answer 0 and how many words there are; or a refusal and the line at fault, counted from 1.
-#[derive(Drop)]
+#[derive(Clone, Copy)]
 pub(crate) struct Emitted {
     pub(crate) answer: u32,
     pub(crate) line: u64,

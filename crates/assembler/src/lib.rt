@@ -1,4 +1,5 @@
 // Assembles a source text into an image.
+#![tactic(auto)]
 mod emit;
 mod survey;
 mod word;
@@ -10,7 +11,7 @@ ghost use Rattle.assembler.specs.Views.{assembled_of};
 use label_table::SIZE;
 
 // Answer 0, line 0 and the length of the image; or a refusal, the line at fault counted from 1 (0 for 21 and 31), and length 0.
-#[derive(Drop)]
+#[derive(Clone, Copy)]
 pub struct Assembled {
     pub answer: u32,
     pub line: u64,

@@ -10,7 +10,7 @@ use values::Fitted;
 const DEEPEST: u32 = 16;
 
 // A register's number, and the place behind it.
-#[derive(Drop)]
+#[derive(Clone, Copy)]
 pub(crate) struct Operand {
     pub(crate) register: u32,
     pub(crate) next: usize,

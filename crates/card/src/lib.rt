@@ -1,5 +1,6 @@
 // The work of the run program and of the check program: an image is read, and what came of it written. What the system reads and writes
 // no contract can say; the run's text and how it ended, and the check's answer, come from calls whose promises are whole.
+#![tactic(auto)]
 ghost use Rattle.io.specs.Counts.{IsPrefixLen};
 ghost use Rattle.printed.specs.Outcome.{outcome, Ends};
 

@@ -1,5 +1,6 @@
 // The assembler program: reads a source from standard input and writes its image to standard output, and nothing else there. What went
 // wrong goes to standard error: `refused N line L`, or a sentence.
+#![tactic(auto)]
 use libc::{STDERR_FILENO, STDIN_FILENO, STDOUT_FILENO};
 
 // The longest source that it takes, in bytes.

@@ -1,4 +1,5 @@
 // Runs images of every kind of answer as the run program runs them. The images are its stored input.
+#![tactic(auto)]
 fn main() {
     cases::run_input();
 }

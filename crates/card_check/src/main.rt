@@ -1,4 +1,5 @@
 // The check program: prints how many words the image on standard input has, or why it is refused. Its stored input is image two.
+#![tactic(auto)]
 fn main() {
     card::check_input();
 }

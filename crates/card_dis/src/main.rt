@@ -1,5 +1,6 @@
 // The disassembler program: reads an image from standard input and writes a source of its words to standard output, and nothing else
 // there. What went wrong goes to standard error: `refused N`, or a sentence; and so does what a source cannot say.
+#![tactic(auto)]
 use libc::STDOUT_FILENO;
 
 fn list(words: &[u32]) {

@@ -1,5 +1,6 @@
 // The export program: reads an image from standard input and writes its words as a text in the Intel HEX format to standard output, and
 // nothing else there. What went wrong goes to standard error: `refused N`, or a sentence; and so does what the format cannot say.
+#![tactic(auto)]
 use libc::STDOUT_FILENO;
 
 fn write_text(words: &[u32]) {

@@ -1,6 +1,7 @@
 // The import program: reads a text of Intel HEX from standard input and writes its image to standard output, and nothing else there. The
 // entry is its first argument, in decimal, or 0; all registers are 0. What went wrong goes to standard error: `refused N line L`, or a
 // sentence.
+#![tactic(auto)]
 ghost use Rattle.std.specs.Prelude.{◌≤◌};
 
 use libc::{STDERR_FILENO, STDIN_FILENO, STDOUT_FILENO};

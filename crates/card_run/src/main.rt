@@ -1,4 +1,5 @@
 // The run program: runs the image on standard input and prints what came of it. Its stored input is image one.
+#![tactic(auto)]
 fn main() {
     card::run_input(false);
 }

@@ -1,4 +1,5 @@
 // The run program, whose stored input here is the longest image with 1,728 bytes after it.
+#![tactic(auto)]
 fn main() {
     card::run_input(false);
 }

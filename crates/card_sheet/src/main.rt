@@ -1,4 +1,5 @@
 // The sheet program: runs the images of the files that standard input names, and prints a line for each and the totals. Its files are in data/.
+#![tactic(auto)]
 fn main() {
     night::make_sheet(false);
 }

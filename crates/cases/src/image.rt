@@ -6,7 +6,7 @@ use crate::reading;
 pub(crate) const ROOM: usize = 8280;
 
 // How long the image is, and where the next bytes go.
-#[derive(Drop)]
+#[derive(Clone, Copy)]
 pub(crate) struct Image {
     pub length: usize,
     pub place: usize,

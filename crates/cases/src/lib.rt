@@ -1,4 +1,5 @@
 // Cases written as text: images are put together word by word, and each case is run and shown under its name. Printing has no contract.
+#![tactic(auto)]
 mod damage;
 mod image;
 mod lines;

@@ -44,7 +44,7 @@ pub(crate) fn past(text: &[u8], at: usize, last: u8) -> usize {
     i
 }
 
-#[derive(Drop)]
+#[derive(Clone, Copy)]
 struct Number {
     value: usize,
     // the place after the byte that ended it
@@ -70,7 +70,7 @@ fn read_number(text: &[u8], at: usize) -> Number {
 }
 
 // Five numbers of a line. One that has fewer leaves the rest without meaning.
-#[derive(Drop)]
+#[derive(Clone, Copy)]
 pub(crate) struct Numbers {
     pub first: usize,
     pub second: usize,

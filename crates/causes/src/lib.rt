@@ -1,4 +1,5 @@
 // A sentence for each answer, with the numbers that `why` found.
+#![tactic(auto)]
 use grants::{jumpers_at, tell_members};
 use lines::say;
 use machine::Processor;
@@ -7,7 +8,7 @@ use sentences::forms::{tell, tell_nth, tell_one};
 use why::Reason;
 
 // Where pc stood before the last step that ran, the word there and its owner; none where nothing ran.
-#[derive(Drop)]
+#[derive(Clone, Copy)]
 pub struct Came {
     pub some: bool,
     pub pc: u32,

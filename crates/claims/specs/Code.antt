@@ -20,7 +20,7 @@ use Rattle.host.proofs.kl_check.Reads as kl-check
 use Rattle.host.proofs.kl_decode.Reads as kl-decode
 use Rattle.host.proofs.kl_encode.Reads as kl-encode
 use Rattle.host.proofs.kl_write.Reads as kl-write
-use Rattle.claims.specs.Contracts.{Promise, Allows, allowed}
+use Rattle.claims.specs.Allowed.{Promise, Allows, allowed}
 use Rattle.claims.specs.Lending as lending
 use Rattle.claims.specs.Memories.{over, memories}
 

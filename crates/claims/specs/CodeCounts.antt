@@ -16,7 +16,7 @@ use Rattle.report.proofs.owned.Reads as owned-of
 use Rattle.report.proofs.jumps.Reads as jumps-of
 use Rattle.report.proofs.stores.Reads as stores-of
 use Rattle.report.proofs.widest.Reads as widest_of
-use Rattle.claims.specs.Contracts.{Promise, Allows, allowed}
+use Rattle.claims.specs.Allowed.{Promise, Allows, allowed}
 use Rattle.claims.specs.HostContracts as kl
 
 -- ---- what the contracts say, of the record, the memory and the number; of the widest, the record, the owners and the sets

@@ -3,15 +3,15 @@ use Rattle.std.specs.Prelude.{◌≡◌, List, ◌↔◌, ℕ, ◌^◌, ◌≤�
 use Rattle.std.proofs.Common.{sym, ap, ◌∙◌, subst}
 use Rattle.common.specs.Tables.{Exactly, NoneHolds}
 use Rattle.rules.specs.Images.{Written, image_bytes}
-use Rattle.hex.specs.Exporting.{text_of, export_checks, export}
-use Rattle.hex.specs.Importing.{Imported, import, accepted}
-use Rattle.hex.specs.Laws.Lengths as lengths
-use Rattle.hex.specs.Theorems.Numbers as numbers
-use Rattle.hex.specs.Theorems.Exported as exported
-use Rattle.hex.specs.Theorems.RoundTrip as round_trip
+use Rattle.intel_hex.specs.Exporting.{text_of, export_checks, export}
+use Rattle.intel_hex.specs.Importing.{Imported, import, accepted}
+use Rattle.intel_hex.specs.Laws.Lengths as lengths
+use Rattle.intel_hex.specs.Theorems.Numbers as numbers
+use Rattle.intel_hex.specs.Theorems.Exported as exported
+use Rattle.intel_hex.specs.Theorems.RoundTrip as round_trip
 use Rattle.exporter.proofs.export.Reads as exporter
 use Rattle.host.proofs.kl_export.Reads as kl-export
-use Rattle.claims.specs.Contracts.{Promise, Allows, allowed}
+use Rattle.claims.specs.Allowed.{Promise, Allows, allowed}
 use Rattle.claims.specs.CodeImport.{Importer}
 
 -- what the contract of export allows, and that it is what the words mean

@@ -4,16 +4,16 @@ use Rattle.std.proofs.Common.{sym, ap, ◌∙◌, subst}
 use Rattle.common.specs.Tables.{Exactly, NoneHolds}
 use Rattle.rules.specs.State.{State}
 use Rattle.rules.specs.Images.{Loaded, image_bytes, loaded, load}
-use Rattle.hex.specs.Reading.{Said, says, reading}
-use Rattle.hex.specs.Importing.{past, words_of, end_checks, Imported, import}
-use Rattle.hex.specs.Theorems.Numbers.{FirstFault}
-use Rattle.hex.specs.Theorems.Numbers as numbers
-use Rattle.hex.specs.Theorems.Accepted.{Says}
-use Rattle.hex.specs.Theorems.Accepted as accepted
-use Rattle.hex.specs.Theorems.Answers.{is_answer, import_answers}
+use Rattle.intel_hex.specs.Reading.{Said, says, reading}
+use Rattle.intel_hex.specs.Importing.{past, words_of, end_checks, Imported, import}
+use Rattle.intel_hex.specs.Theorems.Numbers.{FirstFault}
+use Rattle.intel_hex.specs.Theorems.Numbers as numbers
+use Rattle.intel_hex.specs.Theorems.Accepted.{Says}
+use Rattle.intel_hex.specs.Theorems.Accepted as accepted
+use Rattle.intel_hex.specs.Theorems.Answers.{is_answer, import_answers}
 use Rattle.importer.proofs.import.Reads as importer
 use Rattle.host.proofs.kl_import.Reads as kl-import
-use Rattle.claims.specs.Contracts.{Promise, Allows, allowed}
+use Rattle.claims.specs.Allowed.{Promise, Allows, allowed}
 use Rattle.claims.specs.Code.{Code}
 
 pub record Given : Type 0 where

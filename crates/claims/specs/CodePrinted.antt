@@ -7,7 +7,7 @@ use Rattle.printed.specs.Theorems.Tells as tells
 use Rattle.printed.specs.Theorems.Printing as printing
 use Rattle.printed.specs.Theorems.Bound as bound
 use Rattle.printer.proofs.print.Reads as printer
-use Rattle.claims.specs.Contracts.{Promise, Allows, allowed}
+use Rattle.claims.specs.Allowed.{Promise, Allows, allowed}
 
 abbrev pub by_print : Promise printer.Post (Bool × List ℕ × List ℕ) Printed
 by_print =

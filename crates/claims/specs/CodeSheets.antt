@@ -17,7 +17,7 @@ use Rattle.sheet.proofs.none.Reads as none_of
 use Rattle.sheet.proofs.add.Reads as add-of
 use Rattle.sheet.proofs.total.Reads as total_of
 use Rattle.sheet.proofs.ended.Reads as Ended-of
-use Rattle.claims.specs.Contracts.{Promise, Allows, allowed}
+use Rattle.claims.specs.Allowed.{Promise, Allows, allowed}
 
 abbrev pub by_line : Promise Line-of.Post (Bool × List ℕ × List ℕ) Lined
 by_line =

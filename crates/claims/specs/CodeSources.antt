@@ -14,7 +14,7 @@ use Rattle.assembler.proofs.assemble.Reads as assembler
 use Rattle.disassembler.proofs.disassemble.Reads as disassembler
 use Rattle.host.proofs.kl_assemble.Reads as kl-assemble
 use Rattle.host.proofs.kl_disassemble.Reads as kl-disassemble
-use Rattle.claims.specs.Contracts.{Promise, Allows, allowed}
+use Rattle.claims.specs.Allowed.{Promise, Allows, allowed}
 use Rattle.claims.specs.Code.{Code}
 use Rattle.claims.specs.Sources as sources
 

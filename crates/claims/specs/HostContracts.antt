@@ -7,7 +7,7 @@ use Rattle.host.specs.contracts.kl_owned as kl-owned
 use Rattle.host.specs.contracts.kl_jumps as kl-jumps
 use Rattle.host.specs.contracts.kl_stores as kl-stores
 use Rattle.host.specs.contracts.kl_widest as kl-widest
-use Rattle.claims.specs.Contracts.{Plain, read}
+use Rattle.claims.specs.Allowed.{Plain, read}
 
 abbrev pub load : Plain kl-load.ended
 load = read kl-load.ended (λ M. kl-load.clauses {M = M}) (λ κs a w. tt) (λ κs a r s. record { says = _; is = λ w. refl })

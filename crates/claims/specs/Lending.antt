@@ -11,7 +11,7 @@ use Rattle.rows.specs.Views.{table}
 use Rattle.machine.proofs.Processor.step_rows.Reads as step-rows
 use Rattle.machine.proofs.Processor.run_rows.Reads as run-rows
 use Rattle.loader.proofs.load_rows.Reads as load_rows
-use Rattle.claims.specs.Contracts.{Promise, Allows, allowed}
+use Rattle.claims.specs.Allowed.{Promise, Allows, allowed}
 use Rattle.claims.specs.HostContracts as kl
 use Rattle.claims.specs.Memories.{over, memories}
 

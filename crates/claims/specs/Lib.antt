@@ -4,7 +4,7 @@ pub mod Promises
 pub mod Strict
 pub mod Sources
 -- ---- of the code, over its contracts
-pub mod Contracts
+pub mod Allowed
 pub mod HostContracts
 pub mod Memories
 pub mod Lending

@@ -1,4 +1,5 @@
 // Writes the listing of words: a text that assembles to them.
+#![tactic(auto)]
 mod digits;
 mod lines;
 mod names;
@@ -11,7 +12,7 @@ ghost use Rattle.disassembler.specs.Views.{listed_of};
 use crate::lines::{has_room, store_listing};
 
 // Answer 0 and the length written, or a refusal and 0.
-#[derive(Drop)]
+#[derive(Clone, Copy)]
 pub struct Listed {
     pub answer: u32,
     pub length: usize,

@@ -2,6 +2,7 @@
 //
 // A source stands behind a line `== name`, up to the line feed before the next such line or the end. A name that begins with s is run in
 // strict mode. Each run has 1,000 steps.
+#![tactic(auto)]
 use libc::{STDIN_FILENO, STDOUT_FILENO};
 
 const BUDGET: u32 = 1000;

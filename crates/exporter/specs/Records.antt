@@ -7,8 +7,8 @@ use Rattle.numerals.specs.Bytes.{feed}
 use Rattle.numerals.specs.Numerals.{digits}
 use Rattle.numerals.specs.Writing.{put}
 use Rattle.text.specs.Puts.{put_of, put_nothing, put_behind}
-use Rattle.hex.specs.Records.{colon, data_type, sum}
-use Rattle.hex.specs.Exporting.{pairs, checksum, fields_of, data_record, end_record, chunk, records, records_in, text_of}
+use Rattle.intel_hex.specs.Records.{colon, data_type, sum}
+use Rattle.intel_hex.specs.Exporting.{pairs, checksum, fields_of, data_record, end_record, chunk, records, records_in, text_of}
 use Rattle.exporter.specs.Words.{pairs_append}
 
 -- ---- one record

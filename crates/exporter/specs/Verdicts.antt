@@ -7,9 +7,9 @@ use Rattle.common.specs.Tables.{first_of}
 use Rattle.images.specs.Stores.{sets_over}
 use Rattle.numerals.specs.Writing.{put}
 use Rattle.text.specs.Puts.{put_of, put_whole}
-use Rattle.hex.specs.Exporting.{text_of, export_checks, export_verdict, export}
-use Rattle.hex.specs.Laws.Lengths.{length_text}
-use Rattle.hex.specs.Theorems.Exported.{fits, exported}
+use Rattle.intel_hex.specs.Exporting.{text_of, export_checks, export_verdict, export}
+use Rattle.intel_hex.specs.Laws.Lengths.{length_text}
+use Rattle.intel_hex.specs.Theorems.Exported.{fits, exported}
 
 -- ---- check by check
 

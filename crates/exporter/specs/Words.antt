@@ -6,9 +6,9 @@ use Rattle.images.specs.Sections.{bytes_more}
 use Rattle.numerals.specs.Numerals.{digits}
 use Rattle.numerals.specs.Writing.{put}
 use Rattle.text.specs.Puts.{put_of, put_nothing, put_behind}
-use Rattle.hex.specs.Records.{sum}
-use Rattle.hex.specs.Exporting.{pairs}
-use Rattle.hex.specs.Laws.Written.{sum_append}
+use Rattle.intel_hex.specs.Records.{sum}
+use Rattle.intel_hex.specs.Exporting.{pairs}
+use Rattle.intel_hex.specs.Laws.Written.{sum_append}
 
 -- ---- bytes
 

@@ -1,17 +1,18 @@
 // Writes words as a text in the Intel HEX format.
+#![tactic(auto)]
 mod records;
 mod words;
 
 ghost use Rattle.std.specs.Prelude.{◌≡◌, ◌≤◌, length};
 ghost use Rattle.numerals.specs.Writing.{put};
 ghost use Rattle.text.specs.Puts.{put_of};
-ghost use Rattle.hex.specs.Exporting.{text_of, export_verdict, export};
+ghost use Rattle.intel_hex.specs.Exporting.{text_of, export_verdict, export};
 ghost use Rattle.exporter.specs.Views.{exported_of};
 
 use crate::records::put_records;
 
 // Answer 0 and the length written, or a refusal and 0.
-#[derive(Drop)]
+#[derive(Clone, Copy)]
 pub struct Exported {
     pub answer: u32,
     pub length: usize,

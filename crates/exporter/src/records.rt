@@ -4,8 +4,8 @@ ghost use Rattle.rules.specs.Images.{all_bytes};
 ghost use Rattle.numerals.specs.Bytes.{feed};
 ghost use Rattle.numerals.specs.Writing.{put};
 ghost use Rattle.text.specs.Puts.{put_of};
-ghost use Rattle.hex.specs.Records.{colon, data_type};
-ghost use Rattle.hex.specs.Exporting.{pairs, data_record, chunk, records, records_in};
+ghost use Rattle.intel_hex.specs.Records.{colon, data_type};
+ghost use Rattle.intel_hex.specs.Exporting.{pairs, data_record, chunk, records, records_in};
 
 use crate::words::{put_words, words_sum};
 

@@ -3,8 +3,8 @@ ghost use Rattle.std.specs.Prelude.{◌≡◌, ◌≤◌, length};
 ghost use Rattle.rules.specs.Images.{four_bytes, all_bytes};
 ghost use Rattle.numerals.specs.Writing.{put};
 ghost use Rattle.text.specs.Puts.{put_of};
-ghost use Rattle.hex.specs.Records.{sum};
-ghost use Rattle.hex.specs.Exporting.{pairs};
+ghost use Rattle.intel_hex.specs.Records.{sum};
+ghost use Rattle.intel_hex.specs.Exporting.{pairs};
 
 fn byte_sum(w: u32) -> u32
     ensures { result ≡ sum (four_bytes w) }

@@ -3,6 +3,7 @@
 // expression = ["-"] product { ("+" | "-") product }
 // product = factor { "*" factor }
 // factor = number | label | "." | "(" expression ")"
+#![tactic(auto)]
 mod parts;
 mod results;
 
@@ -16,7 +17,7 @@ use label_table::SIZE;
 use values::Value;
 
 // What was read: the answer 0, 50 or 54; the place behind it; and the value.
-#[derive(Drop)]
+#[derive(Clone, Copy)]
 pub struct Read {
     pub answer: u32,
     pub next: usize,

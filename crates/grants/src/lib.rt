@@ -1,4 +1,5 @@
 // What a compartment owns and may do, as ranges of addresses.
+#![tactic(auto)]
 use compartments::Set;
 use lines::say;
 use machine::Processor;
@@ -76,7 +77,7 @@ fn tell_next(lead: &[u8], told: bool, first: u32, past: u32) -> bool {
 }
 
 // What came of a list: whether something was told, and whether it could not be written.
-#[derive(Drop)]
+#[derive(Clone, Copy)]
 pub struct Listed {
     pub told: bool,
     pub failed: bool,

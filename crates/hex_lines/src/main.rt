@@ -3,11 +3,12 @@
 //
 // A line has the length of the buffer, the entry, the value of r0, each in decimal, and the text, in which / stands for LF and ~ for CR.
 // A line that begins with # is printed as it is.
+#![tactic(auto)]
 use libc::STDIN_FILENO;
 use outcomes::MARK;
 
 // A number, and the place behind it and one blank.
-#[derive(Drop)]
+#[derive(Clone, Copy)]
 struct Field {
     value: u32,
     next: usize,

@@ -5,7 +5,7 @@ use Rattle.rules.specs.Images as images
 use Rattle.rules.specs.Rows as rows
 use Rattle.reasons.specs.Why as reasons
 use Rattle.sources.specs.Meaning as sources
-use Rattle.hex.specs.Importing as hex
+use Rattle.intel_hex.specs.Importing as hex
 use Rattle.rows.specs.Views.{table}
 use Rattle.machine.specs.Views.{state_of}
 use Rattle.machine.specs.declared.Processor.{Processor}

@@ -1,4 +1,5 @@
 // The calls of a host program, which keeps one processor record and lends it to each.
+#![tactic(auto)]
 ghost use Rattle.std.specs.Prelude.{◌≡◌, []};
 ghost use Rattle.common.specs.Words.{decode, encode};
 ghost use Rattle.rules.specs.Rows.{lent_load, lent_step, lent_run};
@@ -7,8 +8,8 @@ ghost use Rattle.rules.specs.Images.{check, write};
 ghost use Rattle.rules.specs.Counts.{owned_count, jump_count, store_count, widest};
 ghost use Rattle.sources.specs.Meaning.{assemble};
 ghost use Rattle.sources.specs.Listing.{disassemble};
-ghost use Rattle.hex.specs.Exporting.{export};
-ghost use Rattle.hex.specs.Importing.{import};
+ghost use Rattle.intel_hex.specs.Exporting.{export};
+ghost use Rattle.intel_hex.specs.Importing.{import};
 ghost use Rattle.rows.specs.Views.{table};
 ghost use Rattle.machine.specs.Views.{state_of};
 ghost use Rattle.loader.specs.Views.{lent};

@@ -1,5 +1,6 @@
 // The words of an image on standard input, for a program that writes them in a form without registers and entry. What went wrong goes to
 // standard error, `refused N` or a sentence; and so does what such a form cannot say.
+#![tactic(auto)]
 ghost use Rattle.io.specs.Counts.{IsPrefixLen};
 
 use libc::{STDERR_FILENO, STDIN_FILENO};

@@ -10,10 +10,10 @@ use Rattle.common.specs.Tables.{first_of}
 use Rattle.rules.specs.Images as image
 use Rattle.rules.specs.Images.{fields, over}
 use Rattle.images.specs.Filling.{length_fields}
-use Rattle.hex.specs.Reading.{Reading, says, refused, reading}
-use Rattle.hex.specs.Importing as meant
-use Rattle.hex.specs.Importing.{past, filled, words_of, end_checks, end_verdict, refusal, accepted, image_of, import}
-use Rattle.hex.specs.Theorems.Accepted.{past_most}
+use Rattle.intel_hex.specs.Reading.{Reading, says, refused, reading}
+use Rattle.intel_hex.specs.Importing as meant
+use Rattle.intel_hex.specs.Importing.{past, filled, words_of, end_checks, end_verdict, refusal, accepted, image_of, import}
+use Rattle.intel_hex.specs.Theorems.Accepted.{past_most}
 use Rattle.importer.specs.declared.Imported.{Imported}
 use Rattle.importer.specs.declared.reading.Outcome.{Outcome}
 use Rattle.importer.specs.Views.{imported_of, said, read_of, bare}

@@ -10,9 +10,9 @@ use Rattle.std.proofs.lemmas.List.Edits.{sets}
 use Rattle.grammar.specs.Laws.Runs.{front}
 use Rattle.rules.specs.Images.{field, fields, over}
 use Rattle.images.specs.Filling.{field_of, fields_more}
-use Rattle.hex.specs.Records.{octet, octets}
-use Rattle.hex.specs.Reading.{none, any_given, given}
-use Rattle.hex.specs.Importing.{past, filled}
+use Rattle.intel_hex.specs.Records.{octet, octets}
+use Rattle.intel_hex.specs.Reading.{none, any_given, given}
+use Rattle.intel_hex.specs.Importing.{past, filled}
 
 -- ---- whether a place up to p has its byte
 

@@ -9,8 +9,8 @@ use Rattle.common.specs.Answers as answer
 use Rattle.common.specs.Laws.Tests.{bool_ext}
 use Rattle.numerals.specs.Bytes.{feed}
 use Rattle.grammar.specs.Laws.Runs.{line_of, line_at, line_end}
-use Rattle.hex.specs.Records.{Line, line, lines, onto, body}
-use Rattle.hex.specs.Reading.{Said, record_verdict, with_record, Reading, says, refused, from, reading}
+use Rattle.intel_hex.specs.Records.{Line, line, lines, onto, body}
+use Rattle.intel_hex.specs.Reading.{Said, record_verdict, with_record, Reading, says, refused, from, reading}
 use Rattle.importer.specs.Views.{said}
 use Rattle.importer.specs.Steps.{Stepped, stepped}
 

@@ -7,7 +7,7 @@ use Rattle.std.proofs.Common.{zero-add, add-one, drop_of_length-le}
 use native.Mathlib.Omega.{arith}
 use borrow.Author.Tests.{not-true, not-false, le-leb, lt-leb, lt-ltb, ne_eqb}
 use Rattle.grammar.specs.Laws.Runs.{front}
-use Rattle.hex.specs.Records.{digit_of, all_digits, octet, octets, count, type, end_type, base_type, base_of, sum, formed, wrong_count, sums_up, known}
+use Rattle.intel_hex.specs.Records.{digit_of, all_digits, octet, octets, count, type, end_type, base_type, base_of, sum, formed, wrong_count, sums_up, known}
 
 -- ---- a digit, by its range, as the code goes through the ranges
 

@@ -10,8 +10,8 @@ use Rattle.std.proofs.Math.Seq.{take-length}
 use Rattle.common.specs.Answers as answer
 use Rattle.common.specs.Tables.{first_of, NoneHolds}
 use Rattle.common.specs.Laws.TableLaws.{nonzero, done_otherwise}
-use Rattle.hex.specs.Records.{line, body, octet, octets, count, type, data_type, end_type, base_type, base_of, formed, wrong_count, sums_up, known}
-use Rattle.hex.specs.Reading.{room, Said, beyond, any_given, given, record_checks, record_verdict, with_record}
+use Rattle.intel_hex.specs.Records.{line, body, octet, octets, count, type, data_type, end_type, base_type, base_of, formed, wrong_count, sums_up, known}
+use Rattle.intel_hex.specs.Reading.{room, Said, beyond, any_given, given, record_checks, record_verdict, with_record}
 use Rattle.importer.specs.Views.{said}
 use Rattle.importer.specs.Steps.{address_of, data_verdict, Fits, memory_by, stepped}
 

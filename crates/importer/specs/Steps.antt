@@ -2,8 +2,8 @@
 use Rattle.std.specs.Prelude.{◌≡◌, Bool, cond, List, ℕ, ◌+◌, ◌*◌, ◌≤◌, eqb}
 use Rattle.std.proofs.lemmas.List.Edits.{sets}
 use Rattle.common.specs.Answers as answer
-use Rattle.hex.specs.Records.{Line, line, body, count, offset, type, data_of, data_type}
-use Rattle.hex.specs.Reading.{room, Said, beyond, given, record_verdict, with_record}
+use Rattle.intel_hex.specs.Records.{Line, line, body, count, offset, type, data_of, data_type}
+use Rattle.intel_hex.specs.Reading.{room, Said, beyond, given, record_verdict, with_record}
 use Rattle.importer.specs.declared.reading.Step.{Step}
 use Rattle.importer.specs.Views.{said}
 

@@ -1,8 +1,8 @@
 -- What is seen of an import's outcome, and of what was read.
 use Rattle.std.specs.Prelude.{Bool, cond, List, ℕ, eqb}
 use Rattle.common.specs.Answers as answer
-use Rattle.hex.specs.Reading.{Said, Reading, says, refused}
-use Rattle.hex.specs.Importing as meant
+use Rattle.intel_hex.specs.Reading.{Said, Reading, says, refused}
+use Rattle.intel_hex.specs.Importing as meant
 use Rattle.importer.specs.declared.Imported.{Imported}
 use Rattle.importer.specs.declared.reading.Outcome.{Outcome}
 

@@ -1,18 +1,19 @@
 // Reads a text of the Intel HEX format into an image.
+#![tactic(auto)]
 mod places;
 mod reading;
 mod records;
 
 ghost use Rattle.std.specs.Prelude.{◌≡◌};
-ghost use Rattle.hex.specs.Reading.{says};
-ghost use Rattle.hex.specs.Importing.{image_of, import};
+ghost use Rattle.intel_hex.specs.Reading.{says};
+ghost use Rattle.intel_hex.specs.Importing.{image_of, import};
 ghost use Rattle.importer.specs.Views.{bare, said, imported_of};
 
 use crate::places::{NONE, ROOM, fill, past};
 use crate::reading::read;
 
 // Answer 0, line 0 and the length of the image; or a refusal, the record at fault counted from 1 (0 for 65, 67, 68, 25 and 31), and length 0.
-#[derive(Drop)]
+#[derive(Clone, Copy)]
 pub struct Imported {
     pub answer: u32,
     pub line: u64,

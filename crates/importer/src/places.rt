@@ -2,9 +2,9 @@
 ghost use Rattle.std.specs.Prelude.{◌≡◌, map, ◌+◌, ◌≤◌, length};
 ghost use Rattle.std.proofs.lemmas.List.Edits.{sets};
 ghost use Rattle.rules.specs.Images.{field, fields, over};
-ghost use Rattle.hex.specs.Records.{octets};
-ghost use Rattle.hex.specs.Reading.{given};
-ghost use Rattle.hex.specs.Importing.{past, filled};
+ghost use Rattle.intel_hex.specs.Records.{octets};
+ghost use Rattle.intel_hex.specs.Reading.{given};
+ghost use Rattle.intel_hex.specs.Importing.{past, filled};
 
 use crate::records::octet;
 

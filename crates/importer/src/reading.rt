@@ -1,7 +1,7 @@
 // The text record by record: each is checked behind what was said before, and then said with it.
 ghost use Rattle.std.specs.Prelude.{◌≡◌, ◌≤◌, length, take, replicate};
-ghost use Rattle.hex.specs.Records.{line, body};
-ghost use Rattle.hex.specs.Reading.{reading};
+ghost use Rattle.intel_hex.specs.Records.{line, body};
+ghost use Rattle.intel_hex.specs.Reading.{reading};
 ghost use Rattle.importer.specs.Views.{said, read_of};
 ghost use Rattle.importer.specs.Steps.{Judged, step_of, stepped, data_verdict, Fits, memory_by};
 
@@ -13,7 +13,7 @@ use crate::records::{
 const RETURN: u8 = 13;
 
 // A record's answer; whether the end record is read, and the base, behind it.
-#[derive(Drop)]
+#[derive(Clone, Copy)]
 pub(crate) struct Step {
     pub(crate) answer: u32,
     pub(crate) ended: bool,
@@ -21,7 +21,7 @@ pub(crate) struct Step {
 }
 
 // Answer 0, with line 0; or a refusal and the record at fault, counted from 1. Whether the end record is read, and the base.
-#[derive(Drop)]
+#[derive(Clone, Copy)]
 pub(crate) struct Outcome {
     pub(crate) answer: u32,
     pub(crate) line: u64,

@@ -1,6 +1,6 @@
 // The parts of a record, and what 60, 61 and 62 ask of it.
 ghost use Rattle.std.specs.Prelude.{◌≡◌, cond, ◌||◌, ◌+◌, ◌*◌, ◌≤◌, eqb, get_or, drop};
-ghost use Rattle.hex.specs.Records.{digit_of, all_digits, octet, offset, type, end_type, base_type, base_of, formed, wrong_count, sums_up, known};
+ghost use Rattle.intel_hex.specs.Records.{digit_of, all_digits, octet, offset, type, end_type, base_type, base_of, formed, wrong_count, sums_up, known};
 
 // The types.
 pub(crate) const DATA: u32 = 0;

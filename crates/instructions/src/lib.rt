@@ -1,4 +1,5 @@
 // Instruction words both ways, by one table of fourteen rows.
+#![tactic(auto)]
 ghost use Rattle.std.specs.Prelude.{◌≡◌};
 ghost use Rattle.common.specs.Words.{allowed, op_of, a_of, b_of, low_of, pack, fault, decode, encode};
 ghost use Rattle.instructions.specs.Masks.{used_of, fits_in, fields_of};
@@ -33,7 +34,7 @@ const USED: [u32; 14] = [
 ];
 
 // A word's opcode and fields with answer 0, or answer 3 or 16 and zeros.
-#[derive(Drop)]
+#[derive(Clone, Copy)]
 pub struct Decoded {
     pub answer: u32,
     pub op: u32,
@@ -43,7 +44,7 @@ pub struct Decoded {
 }
 
 // A word's opcode and fields as they stand: no answer, as nobody asked whether it is an instruction.
-#[derive(Drop)]
+#[derive(Clone, Copy)]
 pub struct Standing {
     pub op: u32,
     pub a: u32,
@@ -52,7 +53,7 @@ pub struct Standing {
 }
 
 // A word with answer 0, or answer 30 and 0.
-#[derive(Drop)]
+#[derive(Clone, Copy)]
 pub struct Encoded {
     pub answer: u32,
     pub word: u32,

@@ -1,4 +1,5 @@
 // The first labels of a text, in a lent array with hashed chains: a label is found in a few steps, however many there are.
+#![tactic(auto)]
 ghost use Rattle.std.specs.Prelude.{◌≡◌, ◌<◌, leb};
 ghost use Rattle.grammar.specs.Laws.Runs.{name_at};
 ghost use Rattle.label_table.specs.Table.{most, hash, count, looked, found, inserted};
@@ -15,7 +16,7 @@ const MOST: u64 = 2048;
 const ENTRIES: usize = 1021;
 
 // Whether a label is there, and how many lines and words stand before its line.
-#[derive(Drop)]
+#[derive(Clone, Copy)]
 pub struct Found {
     pub there: bool,
     pub line: u64,

@@ -1,4 +1,5 @@
 // What a program that tells of an image writes and takes: pieces of a line, the status as the last line, whole numbers as arguments.
+#![tactic(auto)]
 pub mod numbers;
 
 use libc::{STDERR_FILENO, STDOUT_FILENO};

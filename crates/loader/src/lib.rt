@@ -1,4 +1,5 @@
 // Loads an image into lent memories.
+#![tactic(auto)]
 mod filling;
 
 ghost use Rattle.std.specs.Prelude.{◌≡◌, cond, not, ◌&&◌, eqb};
@@ -18,7 +19,7 @@ use reader::Image;
 use rows::{ROWS, Row};
 
 // Answer 0 and the processor as after loading, or a refusal and the blank one.
-#[derive(Drop)]
+#[derive(Clone, Copy)]
 pub struct Loaded {
     pub cpu: Processor,
     pub answer: u32,

@@ -1,4 +1,5 @@
 // The tagged machine: the processor record, one step, and a run with a budget.
+#![tactic(auto)]
 ghost use Rattle.std.specs.Prelude.{◌≡◌};
 ghost use Rattle.rules.specs.Step.{step};
 ghost use Rattle.rules.specs.Run.{run};
@@ -11,7 +12,7 @@ use rights::arrival;
 use rows::{ROWS, Row};
 
 #[repr(C)]
-#[derive(Drop)]
+#[derive(Clone, Copy)]
 pub struct Processor {
     // N, the number of words in memory
     pub n: u32,
@@ -30,14 +31,14 @@ pub struct Processor {
 }
 
 // The record after a step, and the step's answer.
-#[derive(Drop)]
+#[derive(Clone, Copy)]
 pub struct Stepped {
     pub cpu: Processor,
     pub answer: u32,
 }
 
 // The record after a run, the answer that ended it, and how many steps answered 0.
-#[derive(Drop)]
+#[derive(Clone, Copy)]
 pub struct Ran {
     pub cpu: Processor,
     pub answer: u32,

@@ -16,7 +16,7 @@ pub(crate) fn kinds(strict: bool) -> u32 {
 }
 
 // A word's tags, and whether pc stands there.
-#[derive(Drop)]
+#[derive(Clone, Copy)]
 pub(crate) struct Cell {
     pub(crate) owner: u32,
     pub(crate) jumpers: u64,

@@ -1,5 +1,6 @@
 // The memory at the end of a run, drawn: a character or a cell for each word, by its owner. What is drawn comes from calls whose promises
 // are whole; the drawing has no contract.
+#![tactic(auto)]
 mod cells;
 mod legend;
 mod picture;

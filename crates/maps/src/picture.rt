@@ -14,7 +14,7 @@ const LEFT: u32 = 48;
 const TOP: u32 = 52;
 
 // The picture's measures.
-#[derive(Drop)]
+#[derive(Clone, Copy)]
 struct Frame {
     columns: u32,
     width: u32,

@@ -1,4 +1,5 @@
 // The monitor's services over the caller's numbers and the lent memories: every check by reading first, then the tags are written.
+#![tactic(auto)]
 ghost use Rattle.std.specs.Prelude.{◌≡◌, [], if◌then◌else◌};
 ghost use Rattle.common.specs.AddressSets.{set_at};
 ghost use Rattle.rules.specs.Laws.Tested.{isolate_verdict};
@@ -12,7 +13,7 @@ const NUMBERS: u32 = 64;
 
 // The answer, the sets I of the four services, and what the new compartment gained: addresses, which its caller lost, jump targets and
 // store targets.
-#[derive(Drop)]
+#[derive(Clone, Copy)]
 pub struct Isolated {
     pub answer: u32,
     pub services: [u64; 4],
@@ -22,7 +23,7 @@ pub struct Isolated {
 }
 
 // The answer, and 1 where the caller joined a set that it was not in.
-#[derive(Drop)]
+#[derive(Clone, Copy)]
 pub struct Added {
     pub answer: u32,
     pub joined: u32,

@@ -1,4 +1,5 @@
 // What the instruction at pc will write, decided by reading alone.
+#![tactic(auto)]
 ghost use Rattle.std.specs.Prelude.{◌≡◌, ◌<◌, ◌≤◌, slice_index};
 ghost use Rattle.common.specs.Answers as answer;
 ghost use Rattle.common.specs.Words.{op_of, decode};
@@ -8,7 +9,7 @@ ghost use Rattle.moves.specs.Moves as is;
 use rights::arrival;
 
 // A register to write (16: none) and its value; a place to store to (4294967295: none) and its word; then pc, and how it comes there.
-#[derive(Drop)]
+#[derive(Clone, Copy)]
 pub struct Move {
     pub answer: u32,
     pub rd: u32,

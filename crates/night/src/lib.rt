@@ -1,5 +1,6 @@
 // The work of the sheet program: the names on standard input are read, each file's image is run, and its line and then the totals are
 // written. What the system reads and writes no contract can say; lines and totals come from calls whose promises are whole.
+#![tactic(auto)]
 ghost use Rattle.io.specs.Counts.{IsPrefixLen};
 
 use libc::{STDIN_FILENO, STDOUT_FILENO};
@@ -16,7 +17,7 @@ const FEED: u8 = 10;
 const READS: u64 = 4294967296;
 
 // How far the list has come: the bytes of the name that is not ended, the names that are, whether a line could not be written, the totals.
-#[derive(Drop)]
+#[derive(Clone, Copy)]
 struct Night {
     used: usize,
     names: u32,

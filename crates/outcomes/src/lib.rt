@@ -1,4 +1,5 @@
 // What a call told that was to write an image, and what it left in the buffer, as a line of text: for programs that run cases.
+#![tactic(auto)]
 ghost use Rattle.std.specs.Prelude.{◌≤◌};
 
 use libc::STDOUT_FILENO;

@@ -1,4 +1,5 @@
 // Runs an image and makes the text that the run program prints, in a lent buffer.
+#![tactic(auto)]
 pub mod lines;
 
 ghost use Rattle.std.specs.Prelude.{◌≡◌, ◌+◌, ◌*◌, ◌≤◌, length};
@@ -33,7 +34,7 @@ pub const BUDGET_USED: u32 = 3;
 pub const NOT_RUN: u32 = 4;
 
 // Answer 0 and the length of the text, or 31 and 0; and how the image ended.
-#[derive(Drop)]
+#[derive(Clone, Copy)]
 pub struct Printed {
     pub answer: u32,
     pub length: usize,
@@ -41,7 +42,7 @@ pub struct Printed {
 }
 
 // How the image ended, and the length of its text.
-#[derive(Drop)]
+#[derive(Clone, Copy)]
 struct Made {
     status: u32,
     length: usize,

@@ -1,4 +1,5 @@
 // Reads an image: what it says, or why it is refused; and N alone, for a host that has lent nothing yet.
+#![tactic(auto)]
 mod verdict;
 
 ghost use Rattle.std.specs.Prelude.{◌≡◌, ◌+◌, ◌-◌, ◌*◌, ◌≤◌, [], ◌∷◌, ◌++◌, length, replicate};
@@ -8,7 +9,7 @@ ghost use Rattle.reader.specs.Views.{image_of, checked_of};
 use crate::verdict::image_verdict;
 
 // Answer 0 with N, the sixteen registers and the entry; or a refusal and zeros.
-#[derive(Drop)]
+#[derive(Clone, Copy)]
 pub struct Image {
     pub answer: u32,
     pub size: u32,
@@ -17,7 +18,7 @@ pub struct Image {
 }
 
 // Answer 0 with N; or a refusal and 0.
-#[derive(Drop)]
+#[derive(Clone, Copy)]
 pub struct Checked {
     pub answer: u32,
     pub size: u32,

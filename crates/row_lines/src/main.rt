@@ -1,4 +1,5 @@
 // Loads, steps and runs the image on standard input with tables of 63, 64 and 65 rows: the lines on both sides of 18.
+#![tactic(auto)]
 use libc::{STDIN_FILENO, STDOUT_FILENO};
 use machine::Processor;
 use rows::Row;

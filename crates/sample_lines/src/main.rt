@@ -1,5 +1,6 @@
 // Assembles each sample's source and compares it with the sample's image; then writes the image's words as a source, assembles that, and
 // compares again. The samples stand in data/, as in samples/ at the root.
+#![tactic(auto)]
 use libc::STDOUT_FILENO;
 
 fn print(text: &[u8]) {

@@ -38,7 +38,7 @@ fn refused_field(answer: u32, length: usize, n: u32, k: u32) -> u32 {
 }
 
 // Which name field i has, with its number there: a word or a register has one.
-#[derive(Drop)]
+#[derive(Clone, Copy)]
 struct Named {
     name: u32,
     number: u32,

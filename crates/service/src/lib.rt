@@ -1,4 +1,5 @@
 // A step at a service: 2, 4, the service's own checks, then its work on the tags.
+#![tactic(auto)]
 ghost use Rattle.std.specs.Prelude.{◌≡◌};
 ghost use Rattle.common.specs.Answers as answer;
 ghost use Rattle.monitor.specs.Outcomes.{called, isolating_of, adding_of};
@@ -8,7 +9,7 @@ use monitor::{Added, Isolated};
 
 // The answer; and where it is 0, the service's number, the first unused compartment number, the sets I of the four services, and which
 // compartment gained how many addresses, jump targets and store targets.
-#[derive(Drop)]
+#[derive(Clone, Copy)]
 pub struct Served {
     pub answer: u32,
     pub number: u32,

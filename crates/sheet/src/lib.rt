@@ -1,4 +1,5 @@
 // The sheet of a night of images: the line of an image, totals with a line more, and the totals' line.
+#![tactic(auto)]
 mod counting;
 mod lines;
 
@@ -22,14 +23,14 @@ pub const LONGEST: usize = 308;
 pub const LONGEST_TOTALS: usize = 350;
 
 // Answer 0 and the length of the text, or 31 and 0.
-#[derive(Drop)]
+#[derive(Clone, Copy)]
 pub struct Told {
     pub answer: u32,
     pub length: usize,
 }
 
 // What the totals take of a line: the loader's number where the image was refused, else the run's, and how many steps ran.
-#[derive(Drop)]
+#[derive(Clone, Copy)]
 pub struct Note {
     pub refused: bool,
     pub answer: u32,
@@ -37,14 +38,14 @@ pub struct Note {
 }
 
 // The line of an image in a lent buffer, and its note.
-#[derive(Drop)]
+#[derive(Clone, Copy)]
 pub struct Lined {
     pub told: Told,
     pub note: Note,
 }
 
 // The totals of some lines; the runs are counted by their answer.
-#[derive(Drop)]
+#[derive(Clone, Copy)]
 pub struct Totals {
     pub images: u32,
     pub refused: u32,
@@ -53,7 +54,7 @@ pub struct Totals {
 }
 
 // The length of a line's text, and its note.
-#[derive(Drop)]
+#[derive(Clone, Copy)]
 struct Made {
     length: usize,
     note: Note,

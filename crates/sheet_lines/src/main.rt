@@ -1,4 +1,5 @@
 // Runs the sheet's lines that are not marked P over the real code, and shows how each of them ended. The cases are its stored input.
+#![tactic(auto)]
 fn main() {
     cases::run_input();
 }

@@ -3,6 +3,7 @@
 //
 // A text stands behind a line `== name`, up to the line feed before the next such line or the end. A name that begins with 20 or 19
 // has a buffer of so many bytes; all others have room for every image.
+#![tactic(auto)]
 mod show;
 
 ghost use Rattle.std.specs.Prelude.{◌≤◌, length};

@@ -1,4 +1,5 @@
 // A stream read to its end and a text written whole: short calls go on, interrupted ones are tried again, and one that fails is told.
+#![tactic(auto)]
 ghost use Rattle.std.specs.Prelude.{◌≡◌, ◌≤◌, min, length};
 ghost use Rattle.io.specs.Counts.{IsPrefixLen};
 
@@ -6,14 +7,14 @@ ghost use Rattle.io.specs.Counts.{IsPrefixLen};
 const CALLS: u64 = 4294967296;
 
 // Whether a call failed, and how many bytes were moved.
-#[derive(Drop)]
+#[derive(Clone, Copy)]
 pub struct Moved {
     pub failed: bool,
     pub count: usize,
 }
 
 // What a call answered, and the place behind what it moved.
-#[derive(Drop)]
+#[derive(Clone, Copy)]
 struct Call {
     got: isize,
     next: usize,

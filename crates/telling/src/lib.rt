@@ -1,4 +1,5 @@
 // What explain, trace and map tell of an image in words. The facts come from calls whose promises are whole; the wording has no contract.
+#![tactic(auto)]
 pub mod explain;
 pub mod trace;
 

@@ -123,7 +123,7 @@ fn tell_step(
 }
 
 // Makes one step and tells it. What it came to: the record after it, its answer, and whether it was told.
-#[derive(Drop)]
+#[derive(Clone, Copy)]
 struct Traced {
     cpu: Processor,
     answer: u32,

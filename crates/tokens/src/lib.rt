@@ -1,4 +1,5 @@
 // The next token of a line of source, the end of a line, and whether two names are the same.
+#![tactic(auto)]
 mod bytes;
 mod numerals;
 mod reading;
@@ -56,7 +57,7 @@ pub const RIGHT: u32 = 17;
 pub const STRAY: u32 = 18;
 
 // A token as numbers: its kind, the number that goes with it, the place of its first byte and the place behind its last.
-#[derive(Drop)]
+#[derive(Clone, Copy)]
 pub struct Taken {
     pub kind: u32,
     pub value: u64,

@@ -8,14 +8,14 @@ use crate::bytes::folded;
 use crate::{BNZ, CONST, NAME, ONE, PLAIN, REGISTER, THREE, TWO, Taken};
 
 // The bytes of a word as one number, held at 2^40, which has one byte more than a mnemonic may have; and the place behind the word.
-#[derive(Drop)]
+#[derive(Clone, Copy)]
 pub(crate) struct Spelling {
     pub(crate) key: u64,
     pub(crate) next: usize,
 }
 
 // A kind, and the number that goes with it.
-#[derive(Drop)]
+#[derive(Clone, Copy)]
 pub(crate) struct Kind(pub(crate) u32, pub(crate) u64);
 
 // A number with one digit more, held at a limit.

@@ -1,4 +1,5 @@
 // Values of expressions as a sign and a magnitude, or why there is none; and the field that a value goes to.
+#![tactic(auto)]
 ghost use Rattle.std.specs.Prelude.{◌≡◌};
 ghost use Rattle.values.specs.Values as said;
 
@@ -8,7 +9,7 @@ const LOWEST: u64 = 2147483648;
 const HIGHEST: u64 = 4294967295;
 
 // Fault 0 and a value; or fault 51 (an unknown label) or 53 (a value on the way is outside its bounds), and no value.
-#[derive(Drop)]
+#[derive(Clone, Copy)]
 pub struct Value {
     pub fault: u32,
     pub negative: bool,
@@ -16,7 +17,7 @@ pub struct Value {
 }
 
 // Answer 0 and what the field holds, or answer 51 or 53 and 0.
-#[derive(Drop)]
+#[derive(Clone, Copy)]
 pub struct Fitted {
     pub answer: u32,
     pub low: u32,

@@ -1,4 +1,5 @@
 // Why a step would answer its number: the answer, and the numbers that show its cause. Nothing is written.
+#![tactic(auto)]
 mod form_fault;
 mod places;
 mod sets;
@@ -25,7 +26,7 @@ use memory::word_at;
 const NUMBERS: u32 = 64;
 
 // What is told; a number that says nothing of an answer is 0 there.
-#[derive(Drop)]
+#[derive(Clone, Copy)]
 pub struct Reason {
     pub answer: u32,
     // 8, 9 and 10: 1 A', 2 J', 3 S', 4 R'

@@ -1,4 +1,5 @@
 // Runs the sheet's lines about words on the decoder and the encoder, and counts the words of a sample that decode.
+#![tactic(auto)]
 ghost use Rattle.std.specs.Prelude.{◌≤◌};
 
 use libc::STDOUT_FILENO;

@@ -1,4 +1,5 @@
 // Writes an image.
+#![tactic(auto)]
 mod numbers;
 mod sections;
 
@@ -9,7 +10,7 @@ ghost use Rattle.writer.specs.Views.{written_of};
 use crate::sections::{listed_count, put_section};
 
 // Answer 0 and the length written, or a refusal and 0.
-#[derive(Drop)]
+#[derive(Clone, Copy)]
 pub struct Written {
     pub answer: u32,
     pub length: usize,

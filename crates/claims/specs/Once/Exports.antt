@@ -3,7 +3,7 @@ use Rattle.std.specs.Prelude.{List, ℕ}
 use Rattle.rules.specs.Images as images
 use Rattle.exporter.specs.declared.Exported.{Exported}
 use Rattle.exporter.proofs.export.Reads as export
-use Rattle.claims.specs.Contracts.{Once, same_by}
+use Rattle.claims.specs.Allowed.{Once, same_by}
 
 -- exporter: export, with the buffer
 

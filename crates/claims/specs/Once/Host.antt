@@ -4,7 +4,7 @@ use Rattle.common.specs.Words as words
 use Rattle.rules.specs.Images as images
 use Rattle.rules.specs.Rows.{Row, LentStepped, LentRan}
 use Rattle.sources.specs.Meaning as sources
-use Rattle.hex.specs.Importing as hex
+use Rattle.intel_hex.specs.Importing as hex
 use Rattle.rows.specs.Views.{table}
 use Rattle.machine.specs.declared.Processor.{Processor}
 use Rattle.machine.specs.Views.{processor_of}
@@ -25,7 +25,7 @@ use Rattle.report.proofs.owned.Reads as owned
 use Rattle.report.proofs.jumps.Reads as jumps
 use Rattle.report.proofs.stores.Reads as stores
 use Rattle.report.proofs.widest.Reads as widest
-use Rattle.claims.specs.Contracts.{Once, same, same_by}
+use Rattle.claims.specs.Allowed.{Once, same, same_by}
 use Rattle.claims.specs.HostContracts as kl
 use Rattle.claims.specs.Memories.{Lists, lists, lists_of}
 

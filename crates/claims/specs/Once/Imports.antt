@@ -1,9 +1,9 @@
 -- "Two outcomes allowed by one promise are proved equal", of texts imported.
 use Rattle.std.specs.Prelude.{List, ℕ}
-use Rattle.hex.specs.Importing as hex
+use Rattle.intel_hex.specs.Importing as hex
 use Rattle.importer.specs.declared.Imported.{Imported}
 use Rattle.importer.proofs.import.Reads as import
-use Rattle.claims.specs.Contracts.{Once, same_by}
+use Rattle.claims.specs.Allowed.{Once, same_by}
 
 -- importer: import, with the buffer
 

@@ -45,7 +45,7 @@ use Rattle.memory.proofs.put_reg.Reads as put-reg
 use Rattle.memory.proofs.put_word.Reads as put_word
 use Rattle.form.proofs.same_lengths.Reads as same_lengths_lem
 use Rattle.form.proofs.is_formed.Reads as is_formed
-use Rattle.claims.specs.Contracts.{Once, same, same_by}
+use Rattle.claims.specs.Allowed.{Once, same, same_by}
 
 -- modes: service_count, is_service, is_service_number, first_number
 

@@ -47,7 +47,7 @@ use Rattle.reader.proofs.check.Reads as check
 use Rattle.loader.proofs.load.Reads as load
 use Rattle.loader.proofs.load_rows.Reads as load_rows
 use Rattle.writer.proofs.write.Reads as write
-use Rattle.claims.specs.Contracts.{Once, same, same_by}
+use Rattle.claims.specs.Allowed.{Once, same, same_by}
 use Rattle.claims.specs.Memories.{Tags, tags, Lists, lists, lists_of}
 
 -- compartments::Set: none, of_services, contains, insert, count, lowest

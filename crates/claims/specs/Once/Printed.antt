@@ -7,7 +7,7 @@ use Rattle.text.proofs.put_decimal.Reads as put-decimal
 use Rattle.text.proofs.put_hexadecimal.Reads as put-hexadecimal
 use Rattle.text.proofs.put_pair.Reads as put-pair
 use Rattle.printer.proofs.print.Reads as print
-use Rattle.claims.specs.Contracts.{Once, same}
+use Rattle.claims.specs.Allowed.{Once, same}
 
 -- text: least; put_text, put_decimal, put_hexadecimal, put_pair, with the buffer at exit
 

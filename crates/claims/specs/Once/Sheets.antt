@@ -12,7 +12,7 @@ use Rattle.sheet.proofs.none.Reads as none
 use Rattle.sheet.proofs.add.Reads as add
 use Rattle.sheet.proofs.total.Reads as total
 use Rattle.sheet.proofs.ended.Reads as ended
-use Rattle.claims.specs.Contracts.{Once, same}
+use Rattle.claims.specs.Allowed.{Once, same}
 
 -- printer: put_field, put_fields, put_refused; the result, and the buffer at exit
 

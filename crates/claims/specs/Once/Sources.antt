@@ -25,7 +25,7 @@ use Rattle.values.proofs.fit.Reads as fit
 use Rattle.expressions.proofs.expression.Reads as expression
 use Rattle.assembler.proofs.assemble.Reads as assemble
 use Rattle.disassembler.proofs.disassemble.Reads as disassemble
-use Rattle.claims.specs.Contracts.{Once, same, same_by}
+use Rattle.claims.specs.Allowed.{Once, same, same_by}
 
 -- tokens: token, line_end, same_name, folded
 

@@ -1,6 +1,6 @@
 -- The records, and the end record behind them.
-use Rattle.hex.specs.Records.{sum}
-use Rattle.hex.specs.Exporting.{pairs, end_record}
+use Rattle.intel_hex.specs.Records.{sum}
+use Rattle.intel_hex.specs.Exporting.{pairs, end_record}
 use Rattle.exporter.specs.Records.{text_put}
 use borrow.Author.Rules.{rules}
 use Rattle.exporter.proofs.put_all.Statement.{statement}

@@ -6,7 +6,7 @@ use lib.ListN.{length}
 use Rattle.rules.specs.Images.{all_bytes}
 use Rattle.numerals.specs.Writing.{put}
 use Rattle.text.specs.Puts.{put_of}
-use Rattle.hex.specs.Exporting.{records, records_in}
+use Rattle.intel_hex.specs.Exporting.{records, records_in}
 use Rattle.exporter.specs.Records.{records_none, records_put, records_all}
 use Rattle.exporter.proofs.records.put_records.Statement.{statement}
 use Rattle.exporter.proofs.records.put_records.Tie as tie

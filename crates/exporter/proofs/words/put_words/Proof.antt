@@ -7,7 +7,7 @@ use lib.ListN.{length, take}
 use Rattle.rules.specs.Images.{all_bytes}
 use Rattle.numerals.specs.Writing.{put}
 use Rattle.text.specs.Puts.{put_of}
-use Rattle.hex.specs.Exporting.{pairs}
+use Rattle.intel_hex.specs.Exporting.{pairs}
 use Rattle.exporter.specs.Words.{bytes_all, words_none, words_put}
 use borrow.Author.Rules.{rules}
 use Rattle.exporter.proofs.words.put_words.Statement.{statement}

@@ -4,7 +4,7 @@ use Prim.Native.Nat.{◌+◌, ◌-◌, ◌≤◌}
 use native.Mathlib.Omega.{arith}
 use lib.ListN.{length, take}
 use Rattle.rules.specs.Images.{all_bytes}
-use Rattle.hex.specs.Records.{sum}
+use Rattle.intel_hex.specs.Records.{sum}
 use Rattle.exporter.specs.Words.{bytes_all, sum_none, sum_more, sum_small}
 use borrow.Author.Rules.{rules}
 use Rattle.exporter.proofs.words.words_sum.Statement.{statement}

@@ -4,7 +4,7 @@ use mathlib.Core.Path.{◌≡◌, refl, ap, ◌∙◌}
 use Prim.Native.Nat.{ℕ, ◌-◌, ◌≤◌}
 use lib.ListN.{length, set}
 use native.Mathlib.Omega.{arith}
-use Rattle.hex.specs.Importing.{filled}
+use Rattle.intel_hex.specs.Importing.{filled}
 use Rattle.importer.specs.PlaceLaws.{word_joins}
 use Rattle.rules.specs.Images.{fields, over}
 use Rattle.importer.proofs.places.fill.Statement.{statement}

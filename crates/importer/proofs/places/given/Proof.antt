@@ -3,7 +3,7 @@ use mathlib.Core.Path.{◌≡◌, sym, ◌∙◌}
 use Prim.Native.Nat.{◌-◌, ◌≤◌}
 use lib.ListN.{length}
 use native.Mathlib.Omega.{arith}
-use Rattle.hex.specs.Reading as hex
+use Rattle.intel_hex.specs.Reading as hex
 use Rattle.importer.specs.PlaceLaws.{given_starts, given_here, given_turn, given_ends}
 use Rattle.importer.proofs.places.given.Statement.{statement}
 use Rattle.importer.proofs.places.given.Tie as tie

@@ -4,7 +4,7 @@ use Prim.Native.Nat.{◌≤◌}
 use lib.ListN.{length, take}
 use lib.Seq.{take-length}
 use native.Mathlib.Omega.{arith}
-use Rattle.hex.specs.Importing as hex
+use Rattle.intel_hex.specs.Importing as hex
 use Rattle.importer.specs.PlaceLaws.{past_here, past_less, past_start}
 use Rattle.importer.proofs.places.past.Statement.{statement}
 use Rattle.importer.proofs.places.past.Tie as tie

@@ -3,7 +3,7 @@ use mathlib.Core.Path.{◌≡◌, sym, ◌∙◌}
 use Prim.Native.Nat.{◌-◌, ◌≤◌}
 use lib.Seq.{sets}
 use native.Mathlib.Omega.{arith}
-use Rattle.hex.specs.Records.{octets}
+use Rattle.intel_hex.specs.Records.{octets}
 use Rattle.importer.specs.PlaceLaws.{put_starts, put_turn, put_ends, rest}
 use Rattle.importer.proofs.places.put.Statement.{statement}
 use Rattle.importer.proofs.places.put.Tie as tie

@@ -4,8 +4,8 @@ use Prim.Native.Nat.{◌+◌, ◌-◌, ◌≤◌}
 use borrow.Author.Rules.{rules}
 use lib.ListN.{length, drop}
 use native.Mathlib.Omega.{arith}
-use Rattle.hex.specs.Reading.{from, reading}
-use Rattle.hex.specs.Records.{lines}
+use Rattle.intel_hex.specs.Reading.{from, reading}
+use Rattle.intel_hex.specs.Records.{lines}
 use Rattle.importer.specs.ReadLaws.{walk_starts, turn_refuses, turn_goes, walk_ends}
 use Rattle.importer.specs.Views.{said}
 use Rattle.sources.specs.Laws.PlaceLaws.{line_end_within}

@@ -4,7 +4,7 @@ use Prim.Native.Nat.{◌-◌}
 use borrow.Author.Rules.{rules}
 use lib.ListN.{length, drop}
 use native.Mathlib.Omega.{arith}
-use Rattle.hex.specs.Records.{all_digits}
+use Rattle.intel_hex.specs.Records.{all_digits}
 use Rattle.importer.specs.RecordLaws.{digits_stop, digits_turn, digits_end}
 use Rattle.importer.proofs.records.all_digits.Statement.{statement}
 use Rattle.importer.proofs.records.all_digits.Tie as tie

@@ -1,7 +1,7 @@
 -- Two digits make the byte.
 use mathlib.Core.Path.{◌∙◌, ap}
 use borrow.Author.Rules.{rules}
-use Rattle.hex.specs.Records.{digit_of}
+use Rattle.intel_hex.specs.Records.{digit_of}
 use Rattle.importer.specs.RecordLaws.{pair}
 use Rattle.importer.proofs.records.octet.Statement.{statement}
 use Rattle.importer.proofs.records.octet.Tie as tie

@@ -2,8 +2,8 @@
 use mathlib.Core.Path.{◌≡◌, sym, ap, ◌∙◌}
 use Prim.Native.Nat.{ℕ, ◌+◌, ◌-◌, ◌%◌, ◌<◌, ◌≤◌}
 use native.Mathlib.Omega.{arith}
-use Rattle.hex.specs.Records as hex
-use Rattle.hex.specs.Records.{octets}
+use Rattle.intel_hex.specs.Records as hex
+use Rattle.intel_hex.specs.Records.{octets}
 use Rattle.importer.specs.RecordLaws.{sum_start, sum_turn, sum_ends, summed}
 use Rattle.importer.proofs.records.sums_up.Statement.{statement}
 use Rattle.importer.proofs.records.sums_up.Tie as tie

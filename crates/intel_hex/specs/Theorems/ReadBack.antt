@@ -17,13 +17,13 @@ use Rattle.numerals.specs.Bytes.{feed}
 use Rattle.rules.specs.Images.{all_bytes, fields, over}
 use Rattle.images.specs.Sections.{length_all_bytes}
 use Rattle.images.specs.Stores.{sets_then, sets_over}
-use Rattle.hex.specs.Records.{line, lines, offset, data_type, end_type, wrong_count, known}
-use Rattle.hex.specs.Reading.{room, none, Said, address, beyond, given, record_checks, record_verdict, with_record, says, from, reading}
-use Rattle.hex.specs.Importing.{past, filled, words_of}
-use Rattle.hex.specs.Exporting.{fields_of, record_of, data_record, end_record, chunk, records, records_in, text_of}
-use Rattle.hex.specs.Laws.Bounds.{Below, below_take, below_drop, below_of}
-use Rattle.hex.specs.Laws.Written.{Parts, written}
-use Rattle.hex.specs.Laws.Memories.{drop_none, take_none, none_given, drop_sets, past_front, filled_front, fields_front, bytes_below}
+use Rattle.intel_hex.specs.Records.{line, lines, offset, data_type, end_type, wrong_count, known}
+use Rattle.intel_hex.specs.Reading.{room, none, Said, address, beyond, given, record_checks, record_verdict, with_record, says, from, reading}
+use Rattle.intel_hex.specs.Importing.{past, filled, words_of}
+use Rattle.intel_hex.specs.Exporting.{fields_of, record_of, data_record, end_record, chunk, records, records_in, text_of}
+use Rattle.intel_hex.specs.Laws.Bounds.{Below, below_take, below_drop, below_of}
+use Rattle.intel_hex.specs.Laws.Written.{Parts, written}
+use Rattle.intel_hex.specs.Laws.Memories.{drop_none, take_none, none_given, drop_sets, past_front, filled_front, fields_front, bytes_below}
 
 abbrev pub said : Bool → List ℕ → Said
 said ended memory = record { ended = ended; base = 0; memory = memory }

@@ -4,10 +4,10 @@ use Prim.Native.String.{String}
 use Rattle.common.specs.Tables.{first_of}
 use Rattle.rules.specs.Images.{field, fields, all_bytes, section, listed, image_bytes}
 use Rattle.numerals.specs.Bytes.{bytes}
-use Rattle.hex.specs.Records.{lines, body, digit_of, all_digits, octet, octets, sum, formed, wrong_count, sums_up, known}
-use Rattle.hex.specs.Reading.{beyond, any_given, record_checks, record_verdict, with_record, Reading, says, refused, from, reading}
-use Rattle.hex.specs.Importing.{past, words_of, end_checks, end_verdict, Imported, refusal, import}
-use Rattle.hex.specs.Exporting.{pairs, data_record, end_record, records, text_of, export_checks, export_verdict, export}
+use Rattle.intel_hex.specs.Records.{lines, body, digit_of, all_digits, octet, octets, sum, formed, wrong_count, sums_up, known}
+use Rattle.intel_hex.specs.Reading.{beyond, any_given, record_checks, record_verdict, with_record, Reading, says, refused, from, reading}
+use Rattle.intel_hex.specs.Importing.{past, words_of, end_checks, end_verdict, Imported, refusal, import}
+use Rattle.intel_hex.specs.Exporting.{pairs, data_record, end_record, records, text_of, export_checks, export_verdict, export}
 
 -- a text is refused with this number, at this record
 abbrev Refused : String → ℕ → ℕ → Type 0

@@ -3,7 +3,7 @@ use Rattle.std.specs.Prelude.{cond, not, List, [], ◌∷◌, map, ℕ, suc, ◌
 use Rattle.common.specs.Answers as answer
 use Rattle.common.specs.Tables.{Check, on, first_of}
 use Rattle.rules.specs.Images.{fields, image_bytes, over}
-use Rattle.hex.specs.Reading.{none, Said, Reading, says, refused, reading}
+use Rattle.intel_hex.specs.Reading.{none, Said, Reading, says, refused, reading}
 
 -- ---- words
 

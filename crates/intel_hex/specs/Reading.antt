@@ -3,7 +3,7 @@ use Rattle.std.specs.Prelude.{Bool, false, cond, ◌&&◌, ◌||◌, not, List, 
 use Rattle.std.proofs.lemmas.List.Edits.{sets}
 use Rattle.common.specs.Answers as answer
 use Rattle.common.specs.Tables.{Check, on, first_of}
-use Rattle.hex.specs.Records.{Line, lines, body, count, offset, type, data_of, data_type, end_type, base_type, base_of, formed, wrong_count, sums_up, known}
+use Rattle.intel_hex.specs.Records.{Line, lines, body, count, offset, type, data_of, data_type, end_type, base_type, base_of, formed, wrong_count, sums_up, known}
 
 -- 2,048 words in bytes
 abbrev pub room : ℕ

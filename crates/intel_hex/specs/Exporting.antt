@@ -5,7 +5,7 @@ use Rattle.common.specs.Tables.{Check, on, first_of}
 use Rattle.numerals.specs.Bytes.{feed}
 use Rattle.numerals.specs.Numerals.{digits}
 use Rattle.rules.specs.Images.{all_bytes, over, Written}
-use Rattle.hex.specs.Records.{colon, data_type, end_type, sum}
+use Rattle.intel_hex.specs.Records.{colon, data_type, end_type, sum}
 
 -- ---- a record
 

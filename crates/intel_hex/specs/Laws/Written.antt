@@ -5,10 +5,10 @@ use native.Mathlib.Omega.{arith}
 use Rattle.std.proofs.Math.ListN.{length}
 use Rattle.std.proofs.Math.Seq.{take_all, take-append_seam}
 use Rattle.numerals.specs.Bytes.{feed}
-use Rattle.hex.specs.Records.{line, lines, body, colon, octets, count, offset, type, data_of, sum, formed, sums_up}
-use Rattle.hex.specs.Exporting.{checksum, fields_of, record_of}
-use Rattle.hex.specs.Laws.Bounds.{Below, below_append, From}
-use Rattle.hex.specs.Laws.Pairs.{one_line, whole_body, length_pairs, pairs_from, pairs_digits, octet_at, octets_at}
+use Rattle.intel_hex.specs.Records.{line, lines, body, colon, octets, count, offset, type, data_of, sum, formed, sums_up}
+use Rattle.intel_hex.specs.Exporting.{checksum, fields_of, record_of}
+use Rattle.intel_hex.specs.Laws.Bounds.{Below, below_append, From}
+use Rattle.intel_hex.specs.Laws.Pairs.{one_line, whole_body, length_pairs, pairs_from, pairs_digits, octet_at, octets_at}
 
 pub sum_append : (xs ys : List ℕ) → sum (xs ++ ys) ≡ sum xs + sum ys
 unfolding sum

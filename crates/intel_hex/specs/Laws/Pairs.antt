@@ -4,9 +4,9 @@ use Rattle.std.proofs.Common.{ap, ◌∙◌, arith, lt-ltb, le-leb, ltb-true, lt
 use Rattle.std.proofs.lemmas.Bool.{lt-leb}
 use Rattle.numerals.specs.Bytes.{feed}
 use Rattle.numerals.specs.Numerals.{glyph}
-use Rattle.hex.specs.Records.{line, onto, lines, return, body, digit_of, all_digits, octet, octets}
-use Rattle.hex.specs.Exporting.{pairs}
-use Rattle.hex.specs.Laws.Bounds.{Below, From, from_at}
+use Rattle.intel_hex.specs.Records.{line, onto, lines, return, body, digit_of, all_digits, octet, octets}
+use Rattle.intel_hex.specs.Exporting.{pairs}
+use Rattle.intel_hex.specs.Laws.Bounds.{Below, From, from_at}
 
 -- ---- digits
 

@@ -9,10 +9,10 @@ use Rattle.std.proofs.Math.Dec.{eqb}
 use Rattle.common.specs.Answers as answer
 use Rattle.common.specs.Tables.{first_of, Exactly, NoneHolds}
 use Rattle.common.specs.Laws.TableLaws.{nonzero, on_its_condition, done_otherwise}
-use Rattle.hex.specs.Records.{Line, line, lines, body}
-use Rattle.hex.specs.Reading.{Said, nothing, record_checks, record_verdict, with_record, Reading, says, refused, from, reading}
-use Rattle.hex.specs.Importing.{Imported, end_checks, end_verdict, refusal, words_of, accepted, image_of, import}
-use Rattle.hex.specs.Exporting.{export_checks, export_verdict, export}
+use Rattle.intel_hex.specs.Records.{Line, line, lines, body}
+use Rattle.intel_hex.specs.Reading.{Said, nothing, record_checks, record_verdict, with_record, Reading, says, refused, from, reading}
+use Rattle.intel_hex.specs.Importing.{Imported, end_checks, end_verdict, refusal, words_of, accepted, image_of, import}
+use Rattle.intel_hex.specs.Exporting.{export_checks, export_verdict, export}
 
 -- ---- the first record at fault
 

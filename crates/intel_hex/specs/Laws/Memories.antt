@@ -5,9 +5,9 @@ use Rattle.std.proofs.lemmas.List.Edits.{sets}
 use Rattle.common.specs.Laws.Tests.{clash}
 use Rattle.rules.specs.Images.{field, fields, four_bytes, all_bytes}
 use Rattle.images.specs.RoundTrip.{field_first}
-use Rattle.hex.specs.Reading.{none, any_given}
-use Rattle.hex.specs.Importing.{past, filled}
-use Rattle.hex.specs.Laws.Bounds.{Below}
+use Rattle.intel_hex.specs.Reading.{none, any_given}
+use Rattle.intel_hex.specs.Importing.{past, filled}
+use Rattle.intel_hex.specs.Laws.Bounds.{Below}
 
 -- ---- no byte given
 

@@ -5,10 +5,10 @@ use Rattle.std.proofs.Math.Decide.{ℕ_discrete}
 use Rattle.common.specs.Answers as answer
 use Rattle.common.specs.Tables.{Check, Exactly}
 use Rattle.common.specs.Laws.Tests.{both}
-use Rattle.hex.specs.Records.{Line, lines}
-use Rattle.hex.specs.Reading.{Said, record_checks, Reading, says, refused, reading}
-use Rattle.hex.specs.Importing.{end_checks, Imported, import}
-use Rattle.hex.specs.Theorems.Numbers.{no_line, import_fault, import_number, refused_exactly}
+use Rattle.intel_hex.specs.Records.{Line, lines}
+use Rattle.intel_hex.specs.Reading.{Said, record_checks, Reading, says, refused, reading}
+use Rattle.intel_hex.specs.Importing.{end_checks, Imported, import}
+use Rattle.intel_hex.specs.Theorems.Numbers.{no_line, import_fault, import_number, refused_exactly}
 
 -- 0, 25, 31 and 60 to 68
 abbrev pub is_answer : ℕ → Bool

@@ -9,8 +9,8 @@ use Rattle.common.specs.Tables.{first_of}
 use Rattle.common.specs.Laws.Tests.{both}
 use Rattle.rules.specs.Images.{over, Written}
 use Rattle.images.specs.Accepted.{passed}
-use Rattle.hex.specs.Exporting.{text_of, export_checks, export_verdict, export}
-use Rattle.hex.specs.Theorems.Numbers.{export_verdict_lem}
+use Rattle.intel_hex.specs.Exporting.{text_of, export_checks, export_verdict, export}
+use Rattle.intel_hex.specs.Theorems.Numbers.{export_verdict_lem}
 
 module _ (words out : List ℕ) where
   -- 1 to 2,048 words, and the buffer has room for their text

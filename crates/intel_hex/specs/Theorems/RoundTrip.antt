@@ -6,10 +6,10 @@ use borrow.Author.Tests.{le-leb, lt-ltb, ne_eqb}
 use Rattle.common.specs.Answers as answer
 use Rattle.common.specs.Tables.{first_of}
 use Rattle.rules.specs.Images.{image_bytes, Written}
-use Rattle.hex.specs.Importing.{past, end_checks, end_verdict, accepted, import}
-use Rattle.hex.specs.Exporting.{text_of, export}
-use Rattle.hex.specs.Theorems.Exported.{exported, text_is}
-use Rattle.hex.specs.Theorems.ReadBack.{memory_of, text_says, past_is, words_are}
+use Rattle.intel_hex.specs.Importing.{past, end_checks, end_verdict, accepted, import}
+use Rattle.intel_hex.specs.Exporting.{text_of, export}
+use Rattle.intel_hex.specs.Theorems.Exported.{exported, text_is}
+use Rattle.intel_hex.specs.Theorems.ReadBack.{memory_of, text_says, past_is, words_are}
 
 module _ (words regs : List ℕ) (entry : ℕ) (out : List ℕ) (least : 1 ≤ length words) (most : length words ≤ 2048)
     (small : (i : ℕ) → i < length words → get_or words i 0 < 2 ^ 32) (below : entry < length words) (fits : length (image_bytes words regs entry) ≤ length out) where

@@ -13,10 +13,10 @@ use Rattle.rules.specs.Images.{field, image_bytes, loaded, load}
 use Rattle.images.specs.Filling.{length_fields, get_d_fields}
 use Rattle.images.specs.Sections.{written}
 use Rattle.images.specs.RoundTrip.{read_again}
-use Rattle.hex.specs.Records.{Line, lines, body, type, data_of, data_type}
-use Rattle.hex.specs.Reading.{room, none, Said, nothing, address, record_verdict, with_record, Reading, says, refused, from, reading}
-use Rattle.hex.specs.Importing.{past, filled, words_of, end_checks, Imported, accepted, import}
-use Rattle.hex.specs.Theorems.Numbers.{says_not, import_done, import_accepted, import_fault, refused_exactly}
+use Rattle.intel_hex.specs.Records.{Line, lines, body, type, data_of, data_type}
+use Rattle.intel_hex.specs.Reading.{room, none, Said, nothing, address, record_verdict, with_record, Reading, says, refused, from, reading}
+use Rattle.intel_hex.specs.Importing.{past, filled, words_of, end_checks, Imported, accepted, import}
+use Rattle.intel_hex.specs.Theorems.Numbers.{says_not, import_done, import_accepted, import_fault, refused_exactly}
 
 -- ---- the words of a memory
 

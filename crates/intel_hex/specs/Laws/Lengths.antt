@@ -4,9 +4,9 @@ use Rattle.std.proofs.Common.{arith, length-append, length-take, length-drop}
 use Rattle.numerals.specs.Bytes.{feed}
 use Rattle.rules.specs.Images.{all_bytes}
 use Rattle.images.specs.Sections.{length_all_bytes}
-use Rattle.hex.specs.Records.{data_type, end_type}
-use Rattle.hex.specs.Exporting.{data_record, end_record, chunk, records, records_in, text_of}
-use Rattle.hex.specs.Laws.Written.{length_record}
+use Rattle.intel_hex.specs.Records.{data_type, end_type}
+use Rattle.intel_hex.specs.Exporting.{data_record, end_record, chunk, records, records_in, text_of}
+use Rattle.intel_hex.specs.Laws.Written.{length_record}
 
 length_data : (at : ℕ) (bytes : List ℕ) → length (data_record at bytes) ≡ 2 * length bytes + 11
 unfolding data_record
