@@ -17,4 +17,4 @@ pub returns-in-5 : goal.returns-in-5
 returns-in-5 c = is_product _ _ _ _ c.in-5.is refl
 
 pub returns-in_default : goal.returns-in_default
-returns-in_default c = is_comparison _ _ _ _ c.in_default-own.rest.0.0.1 c.in_default-own.rest.0.1 c.in_default-own.rest.1 _ c.pick.ensures _ c.pick-in_default.ensures c.pick-in_default-2.ensures
+returns-in_default c = is_comparison _ _ _ _ c.in_default.in_default-own.rest.0.0.1 c.in_default.in_default-own.rest.0.1 c.in_default.in_default-own.rest.1 _ c.pick.ensures _ c.pick-in_default.ensures c.pick-in_default-2.ensures

@@ -62,4 +62,4 @@ returns-in-13 c = simp c.in-13.is
 
 pub returns-in_default : goal.returns-in_default
 unfolding used_of row
-returns-in_default c = used_high _ (past 14 _ c.in_default-own.rest)
+returns-in_default c = used_high _ (past 14 _ c.in_default.in_default-own.rest)

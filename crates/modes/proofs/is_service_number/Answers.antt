@@ -1,6 +1,7 @@
 -- 1 to the number of services.
 use Rattle.common.specs.Services.{is_service_number}
 use borrow.Author.Tests.{lt-leb, le-leb}
+use Rattle.std.proofs.Common.{rules}
 use Rattle.modes.proofs.is_service_number.Goals as goal
 
 pub returns-then-number-lt1 : goal.returns-then-number-lt1

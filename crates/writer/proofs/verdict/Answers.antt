@@ -14,10 +14,10 @@ pub returns-then-n-entry : goal.returns-then-n-entry
 returns-then-n-entry c = bad_entry _ _ _ _ c.if-n-lt1.false c.if-n-gt2048.false c.if-n-entry.true
 
 pub overflow_mul-length-2 : goal.overflow_mul-length-2
-overflow_mul-length-2 c = let k = short c.args.regs.now _ c.listed_count-k.ensures c.listed_count-arg-1.given.0 in omega arith
+overflow_mul-length-2 c = let k = short c.args.regs.now _ c.listed_count-k.ensures c.listed_count-arg-1.given in omega arith
 
 pub overflow_add-length-2 : goal.overflow_add-length-2
-overflow_add-length-2 c = let k = short c.args.regs.now _ c.listed_count-k.ensures c.listed_count-arg-1.given.0 in omega arith
+overflow_add-length-2 c = let k = short c.args.regs.now _ c.listed_count-k.ensures c.listed_count-arg-1.given in omega arith
 
 pub returns-then-out-length : goal.returns-then-out-length
 returns-then-out-length c = short_buffer _ c.args.regs.now _ _ c.if-n-lt1.false c.if-n-gt2048.false c.if-n-entry.false _ c.listed_count-k.ensures c.if-out-length.true

@@ -46,4 +46,4 @@ returns-in-41 c = ap mark_of (sym c.in-41.is)
 
 pub returns-in_default : goal.returns-in_default
 unfolding mark_of signs
-returns-in_default c = mark_stray _ c.in_default-own.rest
+returns-in_default c = mark_stray _ c.in_default.in_default-own.rest

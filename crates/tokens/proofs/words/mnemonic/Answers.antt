@@ -64,4 +64,4 @@ returns-in-1751215220 c = ap mnemonic_of (sym c.in-1751215220.is)
 
 pub returns-in_default : goal.returns-in_default
 unfolding mnemonic_of find_by words worth
-returns-in_default c = no_mnemonic _ c.in_default-own.rest
+returns-in_default c = no_mnemonic _ c.in_default.in_default-own.rest
