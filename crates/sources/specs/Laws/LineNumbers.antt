@@ -2,7 +2,7 @@
 use Rattle.std.specs.Prelude.{◌≡◌, refl, Bool, true, false, cond, ◌↔◌, ◌⊎◌, ℕ, ◌≤◌, ltb, eqb}
 use Rattle.std.proofs.Common.{sym, ap, ◌∙◌, subst, arith, ltb-false, le-ltb}
 use mathlib.Core.List.{List, Memᴰ}
-use Rattle.std.proofs.Math.Logic.{Iff.trans}
+use Rattle.std.proofs.Math.Logic as logic
 use Rattle.std.proofs.Math.Option.{some}
 use Rattle.std.proofs.lemmas.Bool.{eqb-false}
 use Rattle.common.specs.Answers as answer
@@ -262,12 +262,12 @@ module _ (all before : List Reading) where
   pub bytes_50 : (bs : List ℕ) → (outcome all before (reading bs) ≡ at_fault answer.no_line)
       ↔ (((t : Line) → SourceSays deepest bs t → ⊥) × (SourceTooDeep deepest bs → ⊥))
   unfolding reading
-  bytes_50 bs = Iff.trans (line_50 (reading bs)) (source_fault deepest bs)
+  bytes_50 bs = logic.Iff.trans (line_50 (reading bs)) (source_fault deepest bs)
 
   -- 54: they do
   pub bytes_54 : (bs : List ℕ) → (outcome all before (reading bs) ≡ at_fault answer.too_deep) ↔ SourceTooDeep deepest bs
   unfolding reading
-  bytes_54 bs = Iff.trans (line_54 (reading bs)) (source_deep deepest bs)
+  bytes_54 bs = logic.Iff.trans (line_54 (reading bs)) (source_deep deepest bs)
 
 -- and all other conditions speak of the one line of the grammar that the bytes are
 pub bytes_line : (bs : List ℕ) (t : Line) → (reading bs ≡ got t) ↔ SourceSays deepest bs t
