@@ -1,5 +1,6 @@
 // The tags at the addresses of a set, written: owners, and sets of compartment numbers.
 #![tactic(auto)]
+
 ghost use Rattle.std.specs.Prelude.{◌≡◌, [], ◌∷◌, ◌≤◌, get_or};
 ghost use Rattle.common.specs.Instructions.{bit};
 ghost use Rattle.common.specs.Services.{service_count};

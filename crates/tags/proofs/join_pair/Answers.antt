@@ -1,27 +1,12 @@
 -- The number has joined at the pair's places before x.
-use Prim.Native.Nat.{◌-◌}
 use native.Mathlib.Omega.{arith}
-use Rattle.rules.specs.Compartments.{insert}
 use Rattle.rules.specs.Step.{joined}
 use Rattle.tags.specs.TagLaws.{walk_starts, walk_fits, walk_goes, walk_ends}
-use Rattle.std.proofs.Common.{rules}
 use Rattle.tags.proofs.join_pair.Goals as goal
-
-pub clipped-end-requires : goal.clipped-end-requires
-unfolding joined
-clipped-end-requires c = search rules
 
 pub loop-x-init : goal.loop-x-init
 unfolding joined
 loop-x-init c = walk_starts _ _ _ _ _
-
-pub insert-set-requires : goal.insert-set-requires
-unfolding joined
-insert-set-requires c = search rules
-
-pub differs-changes-requires : goal.differs-changes-requires
-unfolding joined
-differs-changes-requires c = search rules
 
 pub overflow_add-changes : goal.overflow_add-changes
 unfolding joined

@@ -2,6 +2,7 @@
 use Rattle.tags.specs.TagLaws.{four_services}
 use Rattle.rules.specs.Step.{joined_services}
 use Rattle.common.specs.AddressSets.{set_at, in_set}
+use native.Mathlib.Omega.{arith}
 use Rattle.tags.proofs.join_services.Goals as goal
 
 pub returns : goal.returns
@@ -9,4 +10,4 @@ unfolding joined_services
 returns c =
     let g = c.args in
     simp (c.join_if-isolate.ensures, c.join_if-add_jump.ensures, c.join_if-add_store.ensures, c.join_if-add_read.ensures, c.has.ensures, c.has-2.ensures, c.has-3.ensures, c.has-4.ensures)
-    (four_services (in_set (set_at g.words.now g.q)) g.number g.t1 c.well_formed.0.1.0.1)
+    (four_services (in_set (set_at g.words.now g.q)) g.number g.services (omega arith))

@@ -1,39 +1,25 @@
 -- The pairs before j have the owner.
-use Prim.Native.Nat.{◌-◌}
 use native.Mathlib.Omega.{arith}
 use mathlib.Core.Path.{refl}
 use Rattle.rules.specs.Step.{owned}
 use Rattle.tags.specs.TagLaws.{set_starts, set_fits, set_goes, set_ends}
-use Rattle.std.proofs.Common.{rules}
 use Rattle.tags.proofs.own.Goals as goal
-
-pub word_at-k-requires : goal.word_at-k-requires
-unfolding owned
-word_at-k-requires c = search rules
 
 pub loop-j-init : goal.loop-j-init
 unfolding owned
 loop-j-init c = set_starts _ (λ v. refl) _ _ _ _ _
 
-pub pair_at-requires : goal.pair_at-requires
-unfolding owned
-pair_at-requires c = search rules
-
-pub own_pair-changes-requires : goal.own_pair-changes-requires
-unfolding owned
-own_pair-changes-requires c = search rules
-
 pub overflow_add-changes : goal.overflow_add-changes
 unfolding owned
 overflow_add-changes c =
     let left = c.own_pair-changes in
-    omega (arith, set_fits _ (λ v. refl) _ _ _ _ _ _ _ _ c.loop-j.invariant (omega arith) _ c.pair_at.ensures _ left.new.owners left.ensures.0 _ left.ensures.1)
+    omega (arith, set_fits _ (λ v. refl) _ _ _ _ _ _ _ _ c.loop-j.invariant (omega arith) _ c.pair_at.ensures _ left.auto.owners left.ensures.0 _ left.ensures.1)
 
 pub loop-j-preserved : goal.loop-j-preserved
 unfolding owned
 loop-j-preserved c =
     let left = c.own_pair-changes in
-    set_goes _ (λ v. refl) _ _ _ _ _ _ _ _ c.loop-j.invariant (omega arith) _ c.pair_at.ensures _ left.new.owners left.ensures.0 _ left.ensures.1
+    set_goes _ (λ v. refl) _ _ _ _ _ _ _ _ c.loop-j.invariant (omega arith) _ c.pair_at.ensures _ left.auto.owners left.ensures.0 _ left.ensures.1
 
 pub shape_of-owners : goal.shape_of-owners
 unfolding owned

@@ -1,27 +1,13 @@
 -- The pair's places before x have the owner.
 use mathlib.Core.Path.{refl}
-use Prim.Native.Nat.{◌-◌}
 use native.Mathlib.Omega.{arith}
 use Rattle.rules.specs.Step.{owned}
 use Rattle.tags.specs.TagLaws.{walk_starts, walk_fits, walk_goes, walk_ends}
-use Rattle.std.proofs.Common.{rules}
 use Rattle.tags.proofs.own_pair.Goals as goal
-
-pub clipped-end-requires : goal.clipped-end-requires
-unfolding owned
-clipped-end-requires c = search rules
 
 pub loop-x-init : goal.loop-x-init
 unfolding owned
 loop-x-init c = walk_starts _ _ _ _ _
-
-pub overflow_cast-owners : goal.overflow_cast-owners
-unfolding owned
-overflow_cast-owners c = omega (arith, c.slice_known-in-loop-x-1.given c.loop-x.x)
-
-pub differs-changes-requires : goal.differs-changes-requires
-unfolding owned
-differs-changes-requires c = search rules
 
 pub overflow_add-changes : goal.overflow_add-changes
 unfolding owned

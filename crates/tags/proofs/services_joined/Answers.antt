@@ -12,7 +12,7 @@ pub overflow_add-three-2 : goal.overflow_add-three-2
 overflow_add-three-2 c = omega (arith, c.differs-isolate.ensures.1, c.differs-add_jump.ensures.1, c.differs-add_store.ensures.1)
 
 pub returns-then-not-strict : goal.returns-then-not-strict
-returns-then-not-strict c = three_differ _ c.args.t2 c.args.t3 _ _ _ c.differs-isolate.ensures.0 c.differs-add_jump.ensures.0 c.differs-add_store.ensures.0 (ap not c.if-not-strict.true)
+returns-then-not-strict c = three_differ _ c.args.before c.args.after _ _ _ c.differs-isolate.ensures.0 c.differs-add_jump.ensures.0 c.differs-add_store.ensures.0 (ap not c.if-not-strict.true)
 
 pub overflow_add-result : goal.overflow_add-result
 overflow_add-result c =
@@ -23,4 +23,4 @@ overflow_add-result c =
     omega (arith, a, b, d, e)
 
 pub returns : goal.returns
-returns c = four_differ _ c.args.t2 c.args.t3 _ _ _ c.differs-isolate.ensures.0 c.differs-add_jump.ensures.0 c.differs-add_store.ensures.0 (ap not c.if-not-strict.false) _ c.differs.ensures.0
+returns c = four_differ _ c.args.before c.args.after _ _ _ c.differs-isolate.ensures.0 c.differs-add_jump.ensures.0 c.differs-add_store.ensures.0 (ap not c.if-not-strict.false) _ c.differs.ensures.0
