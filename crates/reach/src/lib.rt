@@ -1,6 +1,7 @@
 // What a compartment reaches by the tags, and the checks of it: the sets that it may hand over (8), what it may give away (10) and the
 // address to return to (12).
 #![tactic(auto)]
+
 pub mod walk;
 
 ghost use Rattle.std.specs.Prelude.{◌≡◌, []};

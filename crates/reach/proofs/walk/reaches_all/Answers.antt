@@ -1,20 +1,20 @@
 -- What is left to ask from x on is what was to be asked of the whole pair: first of the words, then of the rest.
-use mathlib.Core.Logic.{⊎_elim}
 use mathlib.Core.Path.{sym, ◌∙◌}
-use Prim.Native.Nat.{◌-◌}
 use native.Mathlib.Omega.{arith}
-use borrow.Author.Tests.{not-false}
-use Rattle.reach.specs.Called.{reaches}
 use Rattle.reach.specs.WalkLaws.{all_done, all_next, all_not}
 use Rattle.reach.specs.ReachLaws.{own_word, word_by_set}
 use Rattle.reach.proofs.walk.reaches_all.Goals as goal
+use Rattle.reach.proofs.walk.reaches_all.Goals.{then-owners-x+else-not-contains, else-owners-x}
 
 pub returns-then-not-contains : goal.returns-then-not-contains
 returns-then-not-contains c = sym (c.loop-x.invariant ∙ all_not _ _ _ (omega arith) (word_by_set _ _ _ _ _ _ _ (omega arith) c.if-owners-x.true _ c.set_at.ensures _ c.contains.ensures ∙ c.if-not-contains.true))
 
 pub loop-x-preserved : goal.loop-x-preserved
 loop-x-preserved c = c.loop-x.invariant ∙ all_next _ _ _ (omega arith)
-    (⊎_elim (λ a. word_by_set _ _ _ _ _ _ _ (omega arith) a.0.taken _ a.1.ensures _ a.2.ensures ∙ not-false _ a.3.left) (λ b. own_word _ _ _ _ _ _ _ (omega arith) b.left) c.if-owners-x.branch)
+    (elim c.if-owners-x.branch [
+      | then-owners-x+else-not-contains w ↦ word_by_set _ _ _ _ _ _ _ (omega arith) w.if-owners-x.true _ w.set_at.ensures _ w.contains.ensures ∙ w.if-not-contains.false
+      | else-owners-x w ↦ own_word _ _ _ _ _ _ _ (omega arith) w.if-owners-x.false
+    ])
 
 pub returns-then-not-reaches : goal.returns-then-not-reaches
 returns-then-not-reaches c = sym (c.loop-x.invariant ∙ c.loop-x-2.invariant ∙ all_not _ _ _ c.loop-x-2-test.true (sym c.reaches.ensures ∙ c.if-not-reaches.true))

@@ -1,6 +1,5 @@
 -- The loop has passed the pairs before j, and the caller reaches all of each.
 use mathlib.Core.Path.{sym, ◌∙◌}
-use Prim.Native.Nat.{◌-◌}
 use native.Mathlib.Omega.{arith}
 use Rattle.reach.specs.WalkLaws.{every_within}
 use Rattle.address_sets.specs.SetLaws.{every_none, every_more, every_not, every_all}
