@@ -1,5 +1,6 @@
 // Writes the listing of words: a text that assembles to them.
 #![tactic(auto)]
+
 mod digits;
 mod lines;
 mod names;

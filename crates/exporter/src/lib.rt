@@ -1,5 +1,6 @@
 // Writes words as a text in the Intel HEX format.
 #![tactic(auto)]
+
 mod records;
 mod words;
 

@@ -1,5 +1,6 @@
 // Reads a text of the Intel HEX format into an image.
 #![tactic(auto)]
+
 mod places;
 mod reading;
 mod records;

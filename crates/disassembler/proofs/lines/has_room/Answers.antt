@@ -1,5 +1,4 @@
 -- The lines measured so far are those of the words before.
-use Prim.Native.Nat.{◌-◌}
 use native.Mathlib.Omega.{arith}
 use Rattle.sources.specs.Listings.ListingLengths.{listing_fits}
 use Rattle.sources.specs.Listing.{listing}

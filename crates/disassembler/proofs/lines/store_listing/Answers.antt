@@ -1,6 +1,5 @@
 -- The lines of the words before are stored.
 use mathlib.Core.Path.{refl}
-use Prim.Native.Nat.{◌-◌}
 use native.Mathlib.Omega.{arith}
 use Rattle.disassembler.specs.Stores.{stored_length}
 use Rattle.disassembler.specs.Lines.{line_room, line_stored, no_lines, listing_all}
@@ -20,7 +19,7 @@ overflow_add-at c = let r = line_room c.args.words.now c.loop-i.i c.loop-i-test.
 
 pub loop-i-preserved : goal.loop-i-preserved
 loop-i-preserved c = let x = c.loop-i in
-    let s = line_stored c.args.words.now x.i c.loop-i-test.true _ _ _ _ _ x.invariant.2 c.Store-word.ensures in
+    let s = line_stored c.args.words.now x.i c.loop-i-test.true _ _ _ _ _ x.invariant.2 c.store_word-end.ensures in
     (omega arith, stored_length _ _ _ _ _ s, s)
 
 pub shape_of-out : goal.shape_of-out

@@ -31,9 +31,9 @@ pub store_offset-requires : goal.store_offset-requires
 store_offset-requires c = let g = c.args in
     let l = joined (blank ++ register_text g.a) (bytes ", ") (offset_text g.low) in (c.requires.0, simp length-set (omega arith))
 
-pub shape_of-out : goal.shape_of-out
-shape_of-out c = stored_length _ _ _ _ _ (returns c)
-
 pub returns : goal.returns
 returns c = let g = c.args in
     stored_joins g.out.now g.at (blank ++ register_text g.a) (bytes ", ") (offset_text g.low) _ _ _ _ c.store_register-p.ensures (stored_two _ _ 44 32 (offset_text g.low) _ _ c.store_offset.ensures)
+
+pub shape_of-out : goal.shape_of-out
+shape_of-out c = stored_length _ _ _ _ _ (returns c)

@@ -16,9 +16,9 @@ store_register-requires c = let g = c.args in
     let l = joined (blank ++ decimal g.low) blank (register_text g.a) in
     let k = stored_length _ _ _ _ _ (stored_one g.out.now g.at 32 (decimal g.low) _ _ c.store_decimal-p.ensures) in omega arith
 
-pub shape_of-out : goal.shape_of-out
-shape_of-out c = stored_length _ _ _ _ _ (returns c)
-
 pub returns : goal.returns
 returns c = let g = c.args in
     stored_joins g.out.now g.at (blank ++ decimal g.low) blank (register_text g.a) _ _ _ _ (stored_one g.out.now g.at 32 (decimal g.low) _ _ c.store_decimal-p.ensures) c.store_register.ensures
+
+pub shape_of-out : goal.shape_of-out
+shape_of-out c = stored_length _ _ _ _ _ (returns c)

@@ -20,8 +20,8 @@ bounds-out-at c = let e = ap length (offset_back _ c.if-low-lt32768.false) in om
 pub store_decimal-requires-2 : goal.store_decimal-requires-2
 store_decimal-requires-2 c = let e = ap length (offset_back _ c.if-low-lt32768.false) in simp length-set (omega arith)
 
-pub shape_of-out : goal.shape_of-out
-shape_of-out c = stored_length _ _ _ _ _ (returns_2 c)
-
 pub returns : goal.returns
 returns c = let g = c.args in rw (offset_back _ c.if-low-lt32768.false) (stored_one g.out.now g.at 45 (decimal (65536 - g.low)) _ _ c.store_decimal-2.ensures)
+
+pub shape_of-out : goal.shape_of-out
+shape_of-out c = stored_length _ _ _ _ _ (returns c)

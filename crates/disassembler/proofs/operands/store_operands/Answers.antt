@@ -1,5 +1,5 @@
 -- Each arm stores what the definition has for its opcodes.
-use mathlib.Core.Logic.{inl, inr, ⊎_elim}
+use mathlib.Core.Logic.{inl, inr}
 use mathlib.Core.Path.{ap}
 use native.Mathlib.Omega.{arith}
 use lib.ListN.{length}
@@ -7,6 +7,7 @@ use Rattle.instructions.specs.Views.{decoded}
 use Rattle.disassembler.specs.Stores.{stored_none}
 use Rattle.disassembler.specs.Operands.{no_operands, number_register, register_offset, one_register, three_registers, two_registers}
 use Rattle.disassembler.proofs.operands.store_operands.Goals as goal
+use Rattle.disassembler.proofs.operands.store_operands.Goals.{in_default-via-then-op-lt3, in_default-via-else-op-lt3+else-op-lt8+then-op-lt10, in_default-via-else-op-lt3+else-op-lt8+else-op-lt10+else-op-lt12}
 
 pub store_constant-requires : goal.store_constant-requires
 store_constant-requires c = let e = ap length (number_register (decoded c.args.i) c.in-1.is) in omega arith
@@ -15,16 +16,18 @@ pub store_branch-requires : goal.store_branch-requires
 store_branch-requires c = let e = ap length (register_offset (decoded c.args.i) c.in-12.is) in (c.requires.0, omega arith)
 
 pub store_three-requires : goal.store_three-requires
-store_three-requires c = let n = c.in_default-1.in_default-1-own.rest in
-    let e = ap length (three_registers (decoded c.args.i) n.0.0.1 n.0.1 n.1 c.if-op-lt3.false c.if-op-lt8.true) in omega arith
+store_three-requires c = let e = ap length (three_registers (decoded c.args.i) (λ e. omega arith) (λ e. omega arith) (λ e. omega arith) (omega arith) (omega arith)) in omega arith
 
 pub store_register-requires : goal.store_register-requires
-store_register-requires c = let n = c.in_default-1.in_default-1-own.rest in
-    let e = ap length (one_register (decoded c.args.i) n.0.0.1 n.0.1 n.1 c.if-op-lt10.false c.if-op-lt12.true) in omega arith
+store_register-requires c = let e = ap length (one_register (decoded c.args.i) (λ e. omega arith) (λ e. omega arith) (λ e. omega arith) (omega arith) (omega arith)) in omega arith
 
 pub store_two-requires : goal.store_two-requires
-store_two-requires c = let n = c.in_default-1.in_default-1-own.rest in
-    let e = ap length (two_registers (decoded c.args.i) n.0.0.1 n.0.1 n.1 (⊎_elim (λ w. inl w.taken) (⊎_elim (λ w. inr (inl (w.1.left, w.2.taken))) (λ w. inr (inr w.3.left))) c.in_default.branch)) in omega arith
+store_two-requires c = let e = ap length (two_registers (decoded c.args.i) (λ e. omega arith) (λ e. omega arith) (λ e. omega arith)
+    (elim c.in_default.branch [
+      | in_default-via-then-op-lt3 w ↦ inl (omega arith)
+      | in_default-via-else-op-lt3+else-op-lt8+then-op-lt10 w ↦ inr (inl (omega arith, omega arith))
+      | in_default-via-else-op-lt3+else-op-lt8+else-op-lt10+else-op-lt12 w ↦ inr (inr (omega arith))
+    ])) in omega arith
 
 pub returns-in-0 : goal.returns-in-0
 returns-in-0 c = rw (no_operands (decoded c.args.i) c.in-0.is) (stored_none _ _)
@@ -36,13 +39,15 @@ pub returns-in-12 : goal.returns-in-12
 returns-in-12 c = rw (register_offset (decoded c.args.i) c.in-12.is) c.store_branch.ensures
 
 pub returns-in-3-to-7 : goal.returns-in-3-to-7
-returns-in-3-to-7 c = let n = c.in_default-1.in_default-1-own.rest in
-    rw (three_registers (decoded c.args.i) n.0.0.1 n.0.1 n.1 c.if-op-lt3.false c.if-op-lt8.true) c.store_three.ensures
+returns-in-3-to-7 c = rw (three_registers (decoded c.args.i) (λ e. omega arith) (λ e. omega arith) (λ e. omega arith) (omega arith) (omega arith)) c.store_three.ensures
 
 pub returns-in-10 : goal.returns-in-10
-returns-in-10 c = let n = c.in_default-1.in_default-1-own.rest in
-    rw (one_register (decoded c.args.i) n.0.0.1 n.0.1 n.1 c.if-op-lt10.false c.if-op-lt12.true) c.store_register.ensures
+returns-in-10 c = rw (one_register (decoded c.args.i) (λ e. omega arith) (λ e. omega arith) (λ e. omega arith) (omega arith) (omega arith)) c.store_register.ensures
 
 pub returns-in_default : goal.returns-in_default
-returns-in_default c = let n = c.in_default-1.in_default-1-own.rest in
-    rw (two_registers (decoded c.args.i) n.0.0.1 n.0.1 n.1 (⊎_elim (λ w. inl w.taken) (⊎_elim (λ w. inr (inl (w.1.left, w.2.taken))) (λ w. inr (inr w.3.left))) c.in_default.branch)) c.store_two.ensures
+returns-in_default c = rw (two_registers (decoded c.args.i) (λ e. omega arith) (λ e. omega arith) (λ e. omega arith)
+    (elim c.in_default.branch [
+      | in_default-via-then-op-lt3 w ↦ inl (omega arith)
+      | in_default-via-else-op-lt3+else-op-lt8+then-op-lt10 w ↦ inr (inl (omega arith, omega arith))
+      | in_default-via-else-op-lt3+else-op-lt8+else-op-lt10+else-op-lt12 w ↦ inr (inr (omega arith))
+    ])) c.store_two.ensures

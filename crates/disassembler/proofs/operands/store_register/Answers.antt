@@ -11,8 +11,8 @@ bounds-out-at-2 c = simp length-set (omega arith)
 pub store_decimal-requires : goal.store_decimal-requires
 store_decimal-requires c = simp length-set (omega arith)
 
-pub shape_of-out : goal.shape_of-out
-shape_of-out c = stored_length _ _ _ _ _ (returns c)
-
 pub returns : goal.returns
 returns c = let g = c.args in stored_two g.out.now g.at 32 114 (decimal g.r) _ _ c.store_decimal.ensures
+
+pub shape_of-out : goal.shape_of-out
+shape_of-out c = stored_length _ _ _ _ _ (returns c)

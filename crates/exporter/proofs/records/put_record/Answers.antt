@@ -6,11 +6,11 @@ use Rattle.exporter.specs.Words.{sum_most}
 use Rattle.exporter.specs.Records.{record_put}
 use Rattle.exporter.proofs.records.put_record.Goals as goal
 
-pub words_sum-requires : goal.words_sum-requires
-words_sum-requires c = let m = sum_most c.args.words.now in omega arith
+pub overflow_add-sum-3 : goal.overflow_add-sum-3
+overflow_add-sum-3 c = let m = sum_most c.args.words.now in omega arith
 
-pub put_head-first-requires : goal.put_head-first-requires
-put_head-first-requires c = put_within _ _ _ _ _ c.put_head-first.ensures
+pub put_words-last-requires : goal.put_words-last-requires
+put_words-last-requires c = put_within _ _ _ _ _ c.put_head-first.ensures
 
 pub returns : goal.returns
 returns c = let g = c.args in

@@ -1,6 +1,6 @@
 -- The records before are put.
 use mathlib.Core.Path.{refl, ap, ◌∙◌}
-use Prim.Native.Nat.{ℕ, ◌-◌}
+use Prim.Native.Nat.{ℕ}
 use native.Mathlib.Omega.{arith}
 use Rattle.rules.specs.Images.{all_bytes}
 use Rattle.numerals.specs.Writing.{put}

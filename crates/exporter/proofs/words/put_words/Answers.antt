@@ -1,7 +1,7 @@
 -- The digits of the words before are put.
 use mathlib.Core.Path.{refl, ap, ◌∙◌}
 use mathlib.Core.List.{List}
-use Prim.Native.Nat.{ℕ, ◌-◌}
+use Prim.Native.Nat.{ℕ}
 use native.Mathlib.Omega.{arith}
 use Rattle.numerals.specs.Writing.{put}
 use Rattle.intel_hex.specs.Exporting.{pairs}

@@ -1,6 +1,6 @@
 -- The bytes of the words before are added up.
 use mathlib.Core.Path.{ap, ◌∙◌}
-use Prim.Native.Nat.{◌+◌, ◌-◌}
+use Prim.Native.Nat.{◌+◌}
 use native.Mathlib.Omega.{arith}
 use Rattle.intel_hex.specs.Records.{sum}
 use Rattle.exporter.specs.Words.{bytes_all, sum_none, sum_more, sum_small}

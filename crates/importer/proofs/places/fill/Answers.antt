@@ -1,7 +1,7 @@
 -- The words so far stand over what was there.
 use mathlib.Core.List.{List, map}
 use mathlib.Core.Path.{◌≡◌, refl, ap, ◌∙◌}
-use Prim.Native.Nat.{ℕ, ◌-◌}
+use Prim.Native.Nat.{ℕ}
 use lib.ListN.{set}
 use native.Mathlib.Omega.{arith}
 use Rattle.intel_hex.specs.Importing.{filled}

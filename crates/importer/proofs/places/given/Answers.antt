@@ -1,6 +1,5 @@
 -- No place before the one reached has its byte.
 use mathlib.Core.Path.{sym, ◌∙◌}
-use Prim.Native.Nat.{◌-◌}
 use native.Mathlib.Omega.{arith}
 use Rattle.importer.specs.PlaceLaws.{given_starts, given_here, given_turn, given_ends}
 use Rattle.importer.proofs.places.given.Goals as goal

@@ -1,6 +1,5 @@
 -- No place from the one reached on has its byte.
 use mathlib.Core.Path.{sym, ap, ◌∙◌}
-use lib.ListN.{length, take}
 use lib.Seq.{take-length}
 use native.Mathlib.Omega.{arith}
 use Rattle.intel_hex.specs.Importing as hex

@@ -1,6 +1,5 @@
 -- The bytes put so far and those that are left are the record's.
 use mathlib.Core.Path.{sym, ◌∙◌}
-use Prim.Native.Nat.{◌-◌}
 use native.Mathlib.Omega.{arith}
 use Rattle.importer.specs.PlaceLaws.{put_starts, put_turn, put_ends}
 use Rattle.importer.proofs.places.put.Goals as goal

@@ -1,5 +1,4 @@
 -- The lines so far are said; the rest of the text says the rest.
-use Prim.Native.Nat.{◌-◌}
 use native.Mathlib.Omega.{arith}
 use Rattle.importer.specs.ReadLaws.{walk_starts, turn_refuses, turn_goes, walk_ends}
 use Rattle.sources.specs.Laws.PlaceLaws.{line_end_within}

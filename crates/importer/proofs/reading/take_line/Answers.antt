@@ -14,4 +14,4 @@ pub keep-requires : goal.keep-requires
 keep-requires c = fitting _ _ _ _ c.body_length-n.ensures.1 (sym c.if-answer-ne-DONE.false ∙ c.verdict-answer.ensures _ c.body_length-n.ensures.1)
 
 pub returns : goal.returns
-returns c = line_said _ _ _ _ (c.verdict-answer.ensures _ c.body_length-n.ensures.1) c.if-answer-ne-DONE.false _ c.body_length-n.ensures.1 _ c.Ended-by.ensures _ c.base_by.ensures _ c.keep.ensures
+returns c = line_said _ _ _ _ (c.verdict-answer.ensures _ c.body_length-n.ensures.1) c.if-answer-ne-DONE.false _ c.body_length-n.ensures.1 _ c.ended_by.ensures _ c.base_by.ensures _ c.keep.ensures

@@ -1,6 +1,5 @@
 -- From the place reached on, digits decide.
 use mathlib.Core.Path.{sym, ◌∙◌}
-use Prim.Native.Nat.{◌-◌}
 use Rattle.importer.specs.RecordLaws.{digits_stop, digits_turn, digits_end}
 use Rattle.importer.proofs.records.all_digits.Goals as goal
 

@@ -1,6 +1,6 @@
 -- The bytes so far and those that are left make the sum.
 use mathlib.Core.Path.{sym, ap, ◌∙◌}
-use Prim.Native.Nat.{ℕ, ◌+◌, ◌-◌}
+use Prim.Native.Nat.{ℕ, ◌+◌}
 use native.Mathlib.Omega.{arith}
 use Rattle.importer.specs.RecordLaws.{sum_start, sum_turn, sum_ends, summed}
 use Rattle.importer.proofs.records.sums_up.Goals as goal
