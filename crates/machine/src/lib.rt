@@ -1,5 +1,6 @@
 // The tagged machine: the processor record, one step, and a run with a budget.
 #![tactic(auto)]
+
 ghost use Rattle.std.specs.Prelude.{◌≡◌};
 ghost use Rattle.rules.specs.Step.{step};
 ghost use Rattle.rules.specs.Run.{run};

@@ -2,13 +2,13 @@
 use Rattle.machine.specs.RunLaws.{unasked_home, nothing, unformed, few_rows, starts, all_used, word_stops, word_turns, word_home, service_stops, service_turns, arrived, called, left}
 use Rattle.rows.specs.Views.{table}
 use Rattle.rows.specs.TableLaws.{length_table}
-use mathlib.Core.Logic.{⊎_elim}
 use mathlib.Core.Path.{refl, sym, ◌∙◌}
 use native.Mathlib.Omega.{arith}
 use Prim.Native.Nat.{◌-◌}
 use Rattle.std.proofs.Common.{ap}
 use Rattle.std.specs.Prelude.{not}
 use Rattle.machine.proofs.Processor.run_rows.Goals as goal
+use Rattle.machine.proofs.Processor.run_rows.Goals.{else-loop-pc-test, then-loop-pc-test+then-budget-count, else-loop-count-test, then-loop-count-test+then-budget-count-2}
 
 pub returns-then-budget-eq0 : goal.returns-then-budget-eq0
 returns-then-budget-eq0 c = nothing _ _ _ c.if-budget-eq0.true
@@ -53,22 +53,22 @@ pub shape_of-words-then-answer-ne-DONE-2 : goal.shape_of-words-then-answer-ne-DO
 shape_of-words-then-answer-ne-DONE-2 c = (c.loop-pc.invariant.0 _ _ c.loop-count.invariant.0).words
 
 pub shape_of-owners-then-answer-ne-DONE-2 : goal.shape_of-owners-then-answer-ne-DONE-2
-shape_of-owners-then-answer-ne-DONE-2 c = c.serve-s.auto.jumpers.1.1.1.1.1.1.1.1.0 ∙ c.loop-count.invariant.0.owners
+shape_of-owners-then-answer-ne-DONE-2 c = c.serve-s.auto.owners ∙ c.loop-count.invariant.0.owners
 
 pub shape_of-jumpers-then-answer-ne-DONE-2 : goal.shape_of-jumpers-then-answer-ne-DONE-2
-shape_of-jumpers-then-answer-ne-DONE-2 c = c.serve-s.auto.jumpers.1.1.1.1.1.1.1.1.1.0 ∙ c.loop-count.invariant.0.jumpers
+shape_of-jumpers-then-answer-ne-DONE-2 c = c.serve-s.auto.jumpers ∙ c.loop-count.invariant.0.jumpers
 
 pub shape_of-writers-then-answer-ne-DONE-2 : goal.shape_of-writers-then-answer-ne-DONE-2
-shape_of-writers-then-answer-ne-DONE-2 c = c.serve-s.auto.jumpers.1.1.1.1.1.1.1.1.1.1.0 ∙ c.loop-count.invariant.0.writers
+shape_of-writers-then-answer-ne-DONE-2 c = c.serve-s.auto.writers ∙ c.loop-count.invariant.0.writers
 
 pub shape_of-readers-then-answer-ne-DONE-2 : goal.shape_of-readers-then-answer-ne-DONE-2
-shape_of-readers-then-answer-ne-DONE-2 c = c.serve-s.auto.jumpers.1.1.1.1.1.1.1.1.1.1.1.0 ∙ c.loop-count.invariant.0.readers
+shape_of-readers-then-answer-ne-DONE-2 c = c.serve-s.auto.readers ∙ c.loop-count.invariant.0.readers
 
 pub shape_of-rows-then-answer-ne-DONE-2 : goal.shape_of-rows-then-answer-ne-DONE-2
 shape_of-rows-then-answer-ne-DONE-2 c = c.loop-count.invariant.3
 
 pub returns-then-answer-ne-DONE-2 : goal.returns-then-answer-ne-DONE-2
-returns-then-answer-ne-DONE-2 c = simp c.ended-then-answer-ne-DONE-2.ensures (service_stops _ _ _ _ _ _ (c.loop-pc.invariant.0 _ _ c.loop-count.invariant.0) c.if-budget-count-2.false (⊎_elim (λ w. w.left) (λ w. absurd (omega (arith, w.1.taken, c.if-budget-count-2.false))) c.loop-pc-test.branch) _ (called _ _ _ _ _ _ _ _ _ _ _ _ _ _ c.prev_of-caller.ensures c.jumped_of.ensures _ c.serve-s.ensures) c.if-answer-ne-DONE-2.true)
+returns-then-answer-ne-DONE-2 c = simp c.ended-then-answer-ne-DONE-2.ensures (service_stops _ _ _ _ _ _ (c.loop-pc.invariant.0 _ _ c.loop-count.invariant.0) c.if-budget-count-2.false (elim c.loop-pc-test.branch [ else-loop-pc-test w ↦ w.loop-pc-test.false | then-loop-pc-test+then-budget-count w ↦ absurd (omega (arith, w.if-budget-count.true, c.if-budget-count-2.false)) ]) _ (called _ _ _ _ _ _ _ _ _ _ _ _ _ _ c.prev_of-caller.ensures c.jumped_of.ensures _ c.serve-s.ensures) c.if-answer-ne-DONE-2.true)
 
 pub overflow_add-count-in-loop-count : goal.overflow_add-count-in-loop-count
 overflow_add-count-in-loop-count c = omega (arith, c.if-budget-count-2.false, c.loop-count.invariant.1)
@@ -77,10 +77,14 @@ pub loop-count-smaller : goal.loop-count-smaller
 loop-count-smaller c = omega (arith, c.if-budget-count-2.false, c.loop-pc.invariant.2)
 
 pub loop-count-preserved : goal.loop-count-preserved
-loop-count-preserved c = (arrived _ _ _ _ _ _ _ _ _ _ _ _ _ _ (omega arith) c.unasked-arrival-in-loop-count.ensures _ _ _ _ _ (service_turns _ _ _ _ _ _ (c.loop-pc.invariant.0 _ _ c.loop-count.invariant.0) c.if-budget-count-2.false (⊎_elim (λ w. w.left) (λ w. absurd (omega (arith, w.1.taken, c.if-budget-count-2.false))) c.loop-pc-test.branch) _ (called _ _ _ _ _ _ _ _ _ _ _ _ _ _ c.prev_of-caller.ensures c.jumped_of.ensures _ c.serve-s.ensures) c.if-answer-ne-DONE-2.false _ c.prev_of-caller.ensures _ c.settle.ensures), c.loop-count.invariant.1, unasked_home _ _ _ _ _ c.unasked-arrival-in-loop-count.ensures, c.settle.auto.rows ∙ c.loop-count.invariant.3)
+loop-count-preserved c = (arrived _ _ _ _ _ _ _ _ _ _ _ _ _ _ (omega arith) c.unasked-arrival-in-loop-count.ensures _ _ _ _ _ (service_turns _ _ _ _ _ _ (c.loop-pc.invariant.0 _ _ c.loop-count.invariant.0) c.if-budget-count-2.false (elim c.loop-pc-test.branch [ else-loop-pc-test w ↦ w.loop-pc-test.false | then-loop-pc-test+then-budget-count w ↦ absurd (omega (arith, w.if-budget-count.true, c.if-budget-count-2.false)) ]) _ (called _ _ _ _ _ _ _ _ _ _ _ _ _ _ c.prev_of-caller.ensures c.jumped_of.ensures _ c.serve-s.ensures) c.if-answer-ne-DONE-2.false _ c.prev_of-caller.ensures _ c.settle.ensures), c.loop-count.invariant.1, unasked_home _ _ _ _ _ c.unasked-arrival-in-loop-count.ensures, c.settle.auto.rows ∙ c.loop-count.invariant.3)
 
 pub shape_of-words : goal.shape_of-words
-shape_of-words c = (⊎_elim (λ w. left _ _ _ _ _ _ _ _ _ _ _ _ _ _ _ _ _ _ _ _ _ _ w.1 w.2 w.3 w.4 w.5 c.loop-count.invariant.0 w.0.left) (λ w. left _ _ _ _ _ _ _ _ _ _ _ _ _ _ _ _ _ _ _ _ _ _ w.4 w.5 w.6 w.7 w.8 (w.1.inv.0 _ _ c.loop-count.invariant.0) w.3.taken) c.loop-count-test.branch).0.words
+shape_of-words c =
+    elim c.loop-count-test.branch [
+      | else-loop-count-test w ↦ (left _ _ _ _ _ _ _ _ _ _ _ _ _ _ _ _ _ _ _ _ _ _ w.words-is w.count-is w.pc-is w.arrival-is w.regs-is c.loop-count.invariant.0 w.loop-count-test.false).0.words
+      | then-loop-count-test+then-budget-count-2 w ↦ (left _ _ _ _ _ _ _ _ _ _ _ _ _ _ _ _ _ _ _ _ _ _ w.words-is w.count-is w.pc-is w.arrival-is w.regs-is (w.loop-pc.invariant.0 _ _ c.loop-count.invariant.0) w.if-budget-count-2.true).0.words
+    ]
 
 pub shape_of-owners : goal.shape_of-owners
 shape_of-owners c = c.loop-count.invariant.0.owners
@@ -98,4 +102,9 @@ pub shape_of-rows : goal.shape_of-rows
 shape_of-rows c = c.loop-count.invariant.3
 
 pub returns : goal.returns
-returns c = let z = ⊎_elim (λ w. left _ _ _ _ _ _ _ _ _ _ _ _ _ _ _ _ _ _ _ _ _ _ w.1 w.2 w.3 w.4 w.5 c.loop-count.invariant.0 w.0.left) (λ w. left _ _ _ _ _ _ _ _ _ _ _ _ _ _ _ _ _ _ _ _ _ _ w.4 w.5 w.6 w.7 w.8 (w.1.inv.0 _ _ c.loop-count.invariant.0) w.3.taken) c.loop-count-test.branch in simp c.ended-2.ensures (all_used _ _ _ _ _ _ z.0 z.1)
+returns c =
+    simp c.ended-2.ensures
+    (elim c.loop-count-test.branch [
+      | else-loop-count-test w ↦ let z = left _ _ _ _ _ _ _ _ _ _ _ _ _ _ _ _ _ _ _ _ _ _ w.words-is w.count-is w.pc-is w.arrival-is w.regs-is c.loop-count.invariant.0 w.loop-count-test.false in all_used _ _ _ _ _ _ z.0 z.1
+      | then-loop-count-test+then-budget-count-2 w ↦ let z = left _ _ _ _ _ _ _ _ _ _ _ _ _ _ _ _ _ _ _ _ _ _ w.words-is w.count-is w.pc-is w.arrival-is w.regs-is (w.loop-pc.invariant.0 _ _ c.loop-count.invariant.0) w.if-budget-count-2.true in all_used _ _ _ _ _ _ z.0 z.1
+    ])
