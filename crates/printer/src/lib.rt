@@ -62,8 +62,8 @@ fn ended_by(answer: u32) -> u32
 
 // The text of a run.
 fn put_ran(out: &mut [u8], r: Ran, owners: &[u32], writers: &[u64], rows: &[Row]) -> usize
-    ensures out_after { put_of result out.new ≡ put (text (ran_by r owners.now writers.now (table rows.now))) 0 out.old }
-    ensures rows_len_bound { length (text (ran_by r owners.now writers.now (table rows.now))) ≤ 108 + 44 * r.cpu.next }
+    ensures written { put_of result out.new ≡ put (text (ran_by r owners.now writers.now (table rows.now))) 0 out.old }
+    ensures bounded { length (text (ran_by r owners.now writers.now (table rows.now))) ≤ 108 + 44 * r.cpu.next }
 {
     let cpu = r.cpu;
     let widest = report::widest(cpu, owners, writers);
@@ -75,8 +75,8 @@ fn put_ran(out: &mut [u8], r: Ran, owners: &[u32], writers: &[u64], rows: &[Row]
 
 // Loads an image, runs it, and puts the text of what came of it.
 fn make(strict: bool, bytes: &[u8], out: &mut [u8]) -> Made
-    ensures out_after { made_of result out.new ≡ meant_of (outcome strict bytes.now) out.old }
-    ensures bytes_len_bound { length (text (outcome strict bytes.now)) ≤ 2924 }
+    ensures written { made_of result out.new ≡ meant_of (outcome strict bytes.now) out.old }
+    ensures bounded { length (text (outcome strict bytes.now)) ≤ 2924 }
 {
     let mut words = [0u32; PLACES];
     let mut owners = [0u32; PLACES];

@@ -19,8 +19,8 @@ pub fn put_field(out: &mut [u8], at: usize, name: &[u8], value: u32) -> usize
 
 // `refused R`, at the front.
 pub fn put_refused(out: &mut [u8], answer: u32) -> usize
-    ensures out_after { put_of result out.new ≡ put (refused_line answer) 0 out.old }
-    ensures answer_len_bound { length (refused_line answer) ≤ 19 }
+    ensures written { put_of result out.new ≡ put (refused_line answer) 0 out.old }
+    ensures bounded { length (refused_line answer) ≤ 19 }
 {
     let p = put_field(out, 0, b"refused ", answer);
     text::put_text(out, p, b"\n")
@@ -46,8 +46,8 @@ pub fn put_fields(
     next: u32,
     widest: u32,
 ) -> usize
-    ensures out_after { put_of result out.new ≡ put (first_fields (line answer steps pc prev jumped next widest)) 0 out.old }
-    ensures widest_len_bound { length (first_fields (line answer steps pc prev jumped next widest)) ≤ 107 }
+    ensures written { put_of result out.new ≡ put (first_fields (line answer steps pc prev jumped next widest)) 0 out.old }
+    ensures bounded { length (first_fields (line answer steps pc prev jumped next widest)) ≤ 107 }
 {
     let flag = one_or_zero(jumped);
     let p1 = put_field(out, 0, b"answer ", answer);
@@ -70,8 +70,8 @@ pub(crate) fn put_first(
     next: u32,
     widest: u32,
 ) -> usize
-    ensures out_after { put_of result out.new ≡ put (first_line (line answer steps pc prev jumped next widest)) 0 out.old }
-    ensures widest_len_bound { length (first_line (line answer steps pc prev jumped next widest)) ≤ 108 }
+    ensures written { put_of result out.new ≡ put (first_line (line answer steps pc prev jumped next widest)) 0 out.old }
+    ensures bounded { length (first_line (line answer steps pc prev jumped next widest)) ≤ 108 }
 {
     let p = put_fields(out, answer, steps, pc, prev, jumped, next, widest);
     text::put_text(out, p, b"\n")
@@ -79,8 +79,8 @@ pub(crate) fn put_first(
 
 // A compartment's line: number, addresses owned, addresses in J, addresses in S.
 fn put_row(out: &mut [u8], at: usize, number: u32, owned: u32, jumps: u32, stores: u32) -> usize
-    ensures out_after { put_of result out.new ≡ put (row_line (row number owned jumps stores)) at out.old }
-    ensures stores_len_bound { length (row_line (row number owned jumps stores)) ≤ 44 }
+    ensures written { put_of result out.new ≡ put (row_line (row number owned jumps stores)) at out.old }
+    ensures bounded { length (row_line (row number owned jumps stores)) ≤ 44 }
 {
     let p1 = put_field(out, at, b"", number);
     let p2 = put_field(out, p1, b" ", owned);
@@ -92,8 +92,8 @@ fn put_row(out: &mut [u8], at: usize, number: u32, owned: u32, jumps: u32, store
 // A line for each compartment below next, from its row.
 pub(crate) fn put_rows(out: &mut [u8], at: usize, next: u32, rows: &[Row]) -> usize
     requires { at ≤ length out.old }
-    ensures out_after { put_of result out.new ≡ put (row_lines (lines_of (table rows.now) 0 next)) at out.old }
-    ensures next_len_bound { length (row_lines (lines_of (table rows.now) 0 next)) ≤ 44 * next }
+    ensures written { put_of result out.new ≡ put (row_lines (lines_of (table rows.now) 0 next)) at out.old }
+    ensures bounded { length (row_lines (lines_of (table rows.now) 0 next)) ≤ 44 * next }
 {
     let mut p = at;
     let mut c: u32 = 0;

@@ -13,8 +13,8 @@ use printer::lines::put_field;
 
 // One more run with this answer, unless the image was refused; answers how many were refused.
 pub(crate) fn count(ended: &mut [u32], refused: bool, answer: u32) -> u32
-    ensures value { result ≡ bit refused }
-    ensures ended_after { ended.new ≡ (if refused then ended.old else slice_set ended.old answer (plus (slice_index ended.old answer) 1)) }
+    ensures counted { result ≡ bit refused }
+    ensures marked { ended.new ≡ (if refused then ended.old else slice_set ended.old answer (plus (slice_index ended.old answer) 1)) }
 {
     if refused {
         return 1;
@@ -47,8 +47,8 @@ fn is_stop(strict: bool, a: u32) -> bool
 
 // A name and a count.
 fn put_count(out: &mut [u8], at: usize, name: &[u8], n: u32) -> usize
-    ensures out_after { put_of result out.new ≡ put (field name.now n) at out.old }
-    ensures n_in_bounds { length (field name.now n) ≤ length name.now + 10 }
+    ensures written { put_of result out.new ≡ put (field name.now n) at out.old }
+    ensures bounded { length (field name.now n) ≤ length name.now + 10 }
 {
     put_field(out, at, name, n)
 }
@@ -56,8 +56,8 @@ fn put_count(out: &mut [u8], at: usize, name: &[u8], n: u32) -> usize
 // A stop and its count; nothing of a number that is none.
 fn put_stop(out: &mut [u8], at: usize, strict: bool, a: u32, n: u32) -> usize
     requires { (at ≤ length out.old) × (a < 18) }
-    ensures out_after { put_of result out.new ≡ put (stop_text strict a n) at out.old }
-    ensures n_len_bound { length (stop_text strict a n) ≤ 14 }
+    ensures written { put_of result out.new ≡ put (stop_text strict a n) at out.old }
+    ensures bounded { length (stop_text strict a n) ≤ 14 }
 {
     if !is_stop(strict, a) {
         return at;
@@ -69,8 +69,8 @@ fn put_stop(out: &mut [u8], at: usize, strict: bool, a: u32, n: u32) -> usize
 // Every stop and its count.
 fn put_stops(out: &mut [u8], at: usize, strict: bool, ended: &[u32]) -> usize
     requires { at ≤ length out.old }
-    ensures out_after { put_of result out.new ≡ put (stops_text (stops strict) ended.now) at out.old }
-    ensures ended_len_bound { length (stops_text (stops strict) ended.now) ≤ 252 }
+    ensures written { put_of result out.new ≡ put (stops_text (stops strict) ended.now) at out.old }
+    ensures bounded { length (stops_text (stops strict) ended.now) ≤ 252 }
 {
     let mut p = at;
     let mut a: u32 = 0;
@@ -84,8 +84,8 @@ fn put_stops(out: &mut [u8], at: usize, strict: bool, ended: &[u32]) -> usize
 
 // The totals' line, at the front.
 pub(crate) fn put_totals(out: &mut [u8], strict: bool, t: Totals) -> usize
-    ensures out_after { put_of result out.new ≡ put (totals_text strict (totals_of t)) 0 out.old }
-    ensures t_len_bound { length (totals_text strict (totals_of t)) ≤ 350 }
+    ensures written { put_of result out.new ≡ put (totals_text strict (totals_of t)) 0 out.old }
+    ensures bounded { length (totals_text strict (totals_of t)) ≤ 350 }
 {
     let p1 = put_count(out, 0, b"images ", t.images);
     let p2 = put_count(out, p1, b" refused ", t.refused);

@@ -62,8 +62,8 @@ struct Made {
 
 // The line of a run.
 fn put_ran(out: &mut [u8], r: Ran, words: &[u32], owners: &[u32], writers: &[u64]) -> usize
-    ensures out_after { put_of result out.new ≡ put (line_text (ran_entry (ran_of r words.now owners.now [] writers.now []))) 0 out.old }
-    ensures writers_len_bound { length (line_text (ran_entry (ran_of r words.now owners.now [] writers.now []))) ≤ 308 }
+    ensures written { put_of result out.new ≡ put (line_text (ran_entry (ran_of r words.now owners.now [] writers.now []))) 0 out.old }
+    ensures bounded { length (line_text (ran_entry (ran_of r words.now owners.now [] writers.now []))) ≤ 308 }
 {
     let cpu = r.cpu;
     let answer = r.answer;
@@ -77,8 +77,8 @@ fn put_ran(out: &mut [u8], r: Ran, words: &[u32], owners: &[u32], writers: &[u64
 
 // Loads an image into fresh memories, runs it, and puts its line. Here alone a sheet loads and runs.
 fn make(strict: bool, bytes: &[u8], out: &mut [u8]) -> Made
-    ensures out_after { made_of result out.new ≡ meant_of (entry strict bytes.now) out.old }
-    ensures bytes_len_bound { length (line_text (entry strict bytes.now)) ≤ 308 }
+    ensures written { made_of result out.new ≡ meant_of (entry strict bytes.now) out.old }
+    ensures bounded { length (line_text (entry strict bytes.now)) ≤ 308 }
 {
     let mut words = [0u32; printer::PLACES];
     let mut owners = [0u32; printer::PLACES];

@@ -71,8 +71,8 @@ fn first_out(
 
 // Where the first pair of the set at q stands that has first >= past; there is one.
 fn wrong_pair(words: &[u32], n: u32, q: u32) -> u32
-    requires q_value { inside words.now n q ≡ true }
-    requires q_value_2 { ordered (set_at words.now q) ≡ false }
+    requires whole { inside words.now n q ≡ true }
+    requires disordered { ordered (set_at words.now q) ≡ false }
     ensures { result ≡ q + 1 + 2 * first_disordered (set_at words.now q) }
 {
     let k = word_at(words, q);

@@ -1,0 +1,10 @@
+-- The owner stands so far over what the memory held.
+use Prim.Native.Nat.{◌-◌}
+use Rattle.loader.specs.Loading.{Filling}
+use Rattle.loader.proofs.filling.fill_owners.Given as goal
+
+abbrev pub invariant-loop-i : goal.invariant-loop-i
+invariant-loop-i l = Filling l.owner l.n l.initial.owners l.owners l.i
+
+abbrev pub decreases-loop-i : goal.decreases-loop-i
+decreases-loop-i l = l.n - l.i
