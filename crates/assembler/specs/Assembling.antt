@@ -4,7 +4,6 @@ use Rattle.std.proofs.Math.Path.{sym, ap}
 use Rattle.std.proofs.Common.{◌∙◌, ne_eqb}
 use Rattle.common.specs.Answers as answer
 use Rattle.rules.specs.Images as image
-use Rattle.sources.specs.Meaning as meant
 use Rattle.sources.specs.Meaning.{Meaning, says, refused, image_of, no_registers, meaning, assemble}
 use Rattle.assembler.specs.declared.emit.Emitted.{Emitted}
 use Rattle.assembler.specs.Emit.{emitted_of}

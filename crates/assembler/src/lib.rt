@@ -1,5 +1,6 @@
 // Assembles a source text into an image.
 #![tactic(auto)]
+
 mod emit;
 mod survey;
 mod word;

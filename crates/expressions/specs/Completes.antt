@@ -6,7 +6,6 @@ use Rattle.std.proofs.Math.Bool.{false}
 use Rattle.std.proofs.Math.Option.{Option, none, some, map}
 use Prim.Native.Nat.{ℕ, zero, suc, ◌+◌, ◌≤◌, ◌<◌}
 use Rattle.std.proofs.lemmas.Bool.{lt-leb}
-use Rattle.common.specs.Answers as answer
 use Rattle.grammar.specs.Tokens.{Token, number, name, minus, star, dot, left, right}
 use Rattle.grammar.specs.Trees.{Sign, adding, taking, Expr, product, negative, more, Product, factor, times, Factor, literal, label, here, group, depth_e, depth_p, depth_f}
 use Rattle.grammar.specs.Grammar.{sign_of, write_e, write_p, write_f}

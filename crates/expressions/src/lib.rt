@@ -4,6 +4,7 @@
 // product = factor { "*" factor }
 // factor = number | label | "." | "(" expression ")"
 #![tactic(auto)]
+
 mod parts;
 mod results;
 
