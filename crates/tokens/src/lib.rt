@@ -1,7 +1,7 @@
 // The next token of a line of source, the end of a line, and whether two names are the same.
 #![tactic(auto)]
 mod bytes;
-mod numerals;
+mod numbers;
 mod reading;
 mod words;
 

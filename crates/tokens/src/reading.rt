@@ -3,7 +3,7 @@ ghost use Rattle.std.specs.Prelude.{◌≡◌};
 ghost use Rattle.tokens.specs.Streams.{handed, skipped, token_at};
 
 use crate::bytes::{blank, folded, mark};
-use crate::numerals::number;
+use crate::numbers::number;
 use crate::words::word;
 use crate::{NONE, Taken};
 

@@ -1,5 +1,4 @@
 -- The loop's maximum is that of the words behind it.
-use mathlib.Core.Logic.{⊎_elim}
 use mathlib.Core.Path.{◌≡◌, ap, ◌∙◌}
 use Prim.Native.Nat.{ℕ, ◌-◌, min}
 use native.Mathlib.Omega.{arith}
@@ -7,10 +6,9 @@ use lib.ListN.{get_or, length}
 use mathlib.Core.List.{List}
 use Rattle.rules.specs.Counts.{writer_count, most_below, widest}
 use Rattle.report.specs.CountLaws.{most_none, most_more}
+use Rattle.report.proofs.widest.Invariants.{at}
 use Rattle.report.proofs.widest.Goals as goal
-
-abbrev at : List ℕ → List ℕ → ℕ → ℕ
-at owners writers x = writer_count (get_or owners x 0) (get_or writers x 0)
+use Rattle.report.proofs.widest.Goals.{then-most-count, else-most-count}
 
 pub loop-x-init : goal.loop-x-init
 loop-x-init c = (omega arith, most_none _)
@@ -21,7 +19,7 @@ loop-x-preserved c = let x = c.loop-x in
     let f = at g.owners.now g.writers.now in
     let m = most_more f x.x in
     let n : c.writer_count-count.result ≡ f x.x = c.writer_count-count.ensures in
-    ⊎_elim (λ w. omega arith) (λ w. omega arith) c.if-most-count.branch
+    elim c.if-most-count.branch [ then-most-count w ↦ omega arith | else-most-count w ↦ omega arith ]
 
 pub returns : goal.returns
 unfolding widest

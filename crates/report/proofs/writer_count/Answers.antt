@@ -6,14 +6,14 @@ use Rattle.rules.specs.Compartments.{insert, size}
 use Rattle.report.specs.CountLaws.{within, beyond, joined_most}
 use Rattle.report.proofs.writer_count.Goals as goal
 
-joined : (c : tie.After-count) → c.count.result ≡ size (insert c.before.before.args.writers c.before.before.args.owner)
-joined c = c.count.ensures ∙ ap (λ (set : ℕ). size set) c.before.insert.ensures
+joined : (n set owner writers : ℕ) → n ≡ size set → set ≡ insert writers owner → n ≡ size (insert writers owner)
+joined n set owner writers e f = e ∙ ap (λ (s : ℕ). size s) f
 
 pub returns-then-owner-lt64 : goal.returns-then-owner-lt64
-returns-then-owner-lt64 c = within _ _ _ (joined c) (omega arith)
+returns-then-owner-lt64 c = within _ _ _ (joined _ _ _ _ c.count-joined.ensures c.insert.ensures) (omega arith)
 
 pub overflow_add-result : goal.overflow_add-result
-overflow_add-result c = let m = joined_most _ _ _ (joined c) in omega arith
+overflow_add-result c = let m = joined_most _ _ _ (joined _ _ _ _ c.count-joined.ensures c.insert.ensures) in omega arith
 
 pub returns : goal.returns
-returns c = beyond _ _ _ (joined c) (omega arith)
+returns c = beyond _ _ _ (joined _ _ _ _ c.count-joined.ensures c.insert.ensures) (omega arith)

@@ -4,7 +4,7 @@ use Prim.Native.Nat.{◌-◌}
 use native.Mathlib.Omega.{arith}
 use Rattle.tokens.specs.Numerals.{most, numeral_past, numeral_ends, numeral_turn, numeral_stray}
 use Rattle.tokens.specs.Worth.{held_most}
-use Rattle.tokens.proofs.numerals.numeral.Goals as goal
+use Rattle.tokens.proofs.numbers.numeral.Goals as goal
 
 pub loop-p-init : goal.loop-p-init
 loop-p-init c = (omega arith, refl)

@@ -1,6 +1,6 @@
 -- With 0x in front the word is hexadecimal, and else it is decimal.
 use Rattle.tokens.specs.Numerals.{number_plain, number_other, number_bare, number_hexadecimal}
-use Rattle.tokens.proofs.numerals.number.Goals as goal
+use Rattle.tokens.proofs.numbers.number.Goals as goal
 
 pub returns-then-z-ne48 : goal.returns-then-z-ne48
 returns-then-z-ne48 c = number_plain _ _ _ c.byte-z.ensures c.if-z-ne48.true _ c.numeral.ensures

@@ -3,7 +3,7 @@ use mathlib.Core.Path.{◌≡◌}
 use Prim.Native.Nat.{◌-◌, ◌≤◌}
 use lib.ListN.{length}
 use Rattle.tokens.specs.Numerals.{most, numeral_at, numeral_on}
-use Rattle.tokens.proofs.numerals.numeral.Given as goal
+use Rattle.tokens.proofs.numbers.numeral.Given as goal
 
 abbrev pub invariant-loop-p : goal.invariant-loop-p
 invariant-loop-p l = (l.value ≤ most) × (numeral_at l.text l.place l.from l.base ≡ numeral_on l.text l.place l.p l.base l.value)
