@@ -1,5 +1,6 @@
 // Runs an image and makes the text that the run program prints, in a lent buffer.
 #![tactic(auto)]
+
 pub mod lines;
 
 ghost use Rattle.std.specs.Prelude.{◌≡◌, ◌+◌, ◌*◌, ◌≤◌, length};
