@@ -1,5 +1,6 @@
 // The sheet of a night of images: the line of an image, totals with a line more, and the totals' line.
 #![tactic(auto)]
+
 mod counting;
 mod lines;
 
