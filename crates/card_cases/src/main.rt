@@ -1,5 +1,6 @@
 // Runs images of every kind of answer as the run program runs them. The images are its stored input.
 #![tactic(auto)]
-fn main() {
-    cases::run_input();
+
+fn main(rt: HostRuntime) {
+    cases::run_input(rt);
 }

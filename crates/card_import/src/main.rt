@@ -2,9 +2,11 @@
 // entry is its first argument, in decimal, or 0; all registers are 0. What went wrong goes to standard error: `refused N line L`, or a
 // sentence.
 #![tactic(auto)]
+
 ghost use Rattle.std.specs.Prelude.{◌≤◌};
 
-use libc::{STDERR_FILENO, STDIN_FILENO, STDOUT_FILENO};
+use std::env::FillError;
+use std::rt::Env;
 
 // The longest text that it takes, in bytes.
 const MOST: usize = 262144;
@@ -12,16 +14,16 @@ const MOST: usize = 262144;
 // Whatever is larger is told as this: no memory reaches so far.
 const LARGEST: u64 = 4294967295;
 
-fn say(text: &[u8]) {
-    streams::write_all(STDERR_FILENO, text);
+fn say(rt: HostRuntime, text: &[u8]) {
+    streams::write_all(&mut rt.stderr(), text);
 }
 
-fn refuse(answer: u32, line: u64) {
-    say(b"refused ");
-    io::print_decimal(STDERR_FILENO, answer as u64);
-    say(b" line ");
-    io::print_decimal(STDERR_FILENO, line);
-    say(b"\n");
+fn refuse(rt: HostRuntime, answer: u32, line: u64) {
+    say(rt, b"refused ");
+    let _ = rt.stderr().print(answer);
+    say(rt, b" line ");
+    let _ = rt.stderr().print(line);
+    say(rt, b"\n");
 }
 
 // A number with one digit more; any other byte makes it the largest.
@@ -50,45 +52,42 @@ fn number(digits: &[u8]) -> u32 {
 }
 
 // The entry that is asked for.
-fn entry() -> u32 {
-    if os::arg_count() < 2 {
-        return 0;
-    }
+fn entry(rt: HostRuntime) -> u32 {
     let mut digits = [0u8; 16];
-    let n = os::arg(1, &mut digits);
-    if os::errno() != 0 {
-        return LARGEST as u32;
+    match rt.arg(1, &mut digits) {
+        Ok(n) => number(&digits[..n]),
+        Err(FillError::NotPresent) => 0,
+        Err(FillError::TooLong) => LARGEST as u32,
     }
-    number(&digits[..n])
 }
 
-fn import(text: &[u8], entry: u32) {
+fn import(rt: HostRuntime, text: &[u8], entry: u32) {
     let mut image = [0u8; 8272];
     let regs = [0u32; 16];
     let i = importer::import(text, &regs, entry, &mut image);
     let answer = i.answer;
     if answer != answers::DONE {
-        refuse(answer, i.line);
+        refuse(rt, answer, i.line);
         return;
     }
     let n = streams::within(i.length, &image);
-    let moved = streams::write_all(STDOUT_FILENO, &image[..n]);
+    let moved = streams::write_all(&mut rt.stdout(), &image[..n]);
     if moved.failed {
-        say(b"the image could not be written\n");
+        say(rt, b"the image could not be written\n");
     }
 }
 
-fn main() {
+fn main(rt: HostRuntime) {
     let mut text = streams::source_buffer();
-    let got = streams::read_all(STDIN_FILENO, &mut text);
+    let got = streams::read_all(&mut rt.stdin(), &mut text);
     if got.failed {
-        say(b"the text could not be read\n");
+        say(rt, b"the text could not be read\n");
         return;
     }
     let n = got.count;
     if n > MOST {
-        say(b"the text is longer than 262,144 bytes\n");
+        say(rt, b"the text is longer than 262,144 bytes\n");
         return;
     }
-    import(&text[..n], entry());
+    import(rt, &text[..n], entry(rt));
 }

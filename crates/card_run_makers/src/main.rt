@@ -1,5 +1,6 @@
 // The run program, whose stored input here is the two makers' image of samples/.
 #![tactic(auto)]
-fn main() {
-    card::run_input(false);
+
+fn main(rt: HostRuntime) {
+    card::run_input(rt, false);
 }

@@ -1,5 +1,6 @@
 // The run program in strict mode. Its stored input is the calibration sample.
 #![tactic(auto)]
-fn main() {
-    card::run_input(true);
+
+fn main(rt: HostRuntime) {
+    card::run_input(rt, true);
 }

@@ -1,5 +1,6 @@
 // The sheet program in strict mode. Its files are in data/.
 #![tactic(auto)]
-fn main() {
-    night::make_sheet(true);
+
+fn main(rt: HostRuntime) {
+    night::make_sheet(rt, true);
 }

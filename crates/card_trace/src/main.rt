@@ -1,6 +1,7 @@
 // The trace program: reads an image from standard input and writes a line for each step. Its arguments: the number of the first step that
 // is told, how many are, and the mode (1: strict).
 #![tactic(auto)]
-fn main() {
-    telling::trace_input();
+
+fn main(rt: HostRuntime) {
+    telling::trace_input(rt);
 }

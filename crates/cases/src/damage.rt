@@ -28,18 +28,18 @@ fn answer_of(values: [u64; 13]) -> u64 {
     999
 }
 
-fn show_answer(bytes: &[u8]) {
+fn show_answer(rt: HostRuntime, bytes: &[u8]) {
     let answer = answer_of(loading::loaded_over_marks(false, bytes, loading::equal(4)));
-    showing::show(b" #", [answer; 13]);
+    showing::show(rt, b" #", [answer; 13]);
 }
 
-pub(crate) fn show_cuts(bytes: &[u8]) {
+pub(crate) fn show_cuts(rt: HostRuntime, bytes: &[u8]) {
     let mut n = 0;
     while n <= bytes.len() {
-        show_answer(&bytes[..n]);
+        show_answer(rt, &bytes[..n]);
         n += 1;
     }
-    showing::byte(10);
+    showing::byte(rt, 10);
 }
 
 // A byte with a number added, round 256.
@@ -47,14 +47,14 @@ fn turned(b: u8, by: usize) -> u8 {
     ((b as usize + by % 256) % 256) as u8
 }
 
-pub(crate) fn show_changes(bytes: &mut [u8], by: usize) {
+pub(crate) fn show_changes(rt: HostRuntime, bytes: &mut [u8], by: usize) {
     let mut i = 0;
     while i < bytes.len() {
         let b = bytes[i];
         bytes[i] = turned(b, by);
-        show_answer(bytes);
+        show_answer(rt, bytes);
         bytes[i] = b;
         i += 1;
     }
-    showing::byte(10);
+    showing::byte(rt, 10);
 }

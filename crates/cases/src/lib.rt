@@ -1,5 +1,6 @@
 // Cases written as text: images are put together word by word, and each case is run and shown under its name. Printing has no contract.
 #![tactic(auto)]
+
 mod damage;
 mod image;
 mod lines;
@@ -9,11 +10,10 @@ mod running;
 mod showing;
 mod writing;
 
-use libc::STDIN_FILENO;
-
 // Runs the cases on standard input.
-pub fn run_input() {
-    let mut text = io::large_buffer();
-    let n = io::read_full(STDIN_FILENO, &mut text);
-    lines::run_lines(&text[..n]);
+pub fn run_input(rt: HostRuntime) {
+    let mut text = [0u8; 65536];
+    let got = streams::read_all(&mut rt.stdin(), &mut text);
+    let n = got.count;
+    lines::run_lines(rt, &text[..n]);
 }

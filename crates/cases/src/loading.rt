@@ -100,23 +100,24 @@ pub(crate) fn equal(places: usize) -> Numbers {
 }
 
 // The readers are shown in strict mode alone.
-pub(crate) fn show_loaded(strict: bool, bytes: &[u8], lengths: Numbers) {
+pub(crate) fn show_loaded(rt: HostRuntime, strict: bool, bytes: &[u8], lengths: Numbers) {
     let values = loaded_over_marks(strict, bytes, lengths);
     showing::show(
+        rt,
         b" answer # n # regs # pc # prev # jumped # next # services # words # owners # jumpers # writers #",
         values,
     );
     if strict {
-        showing::show(b" readers #", [values[12]; 13]);
+        showing::show(rt, b" readers #", [values[12]; 13]);
     }
-    showing::byte(10);
+    showing::byte(rt, 10);
 }
 
-pub(crate) fn show_checked(bytes: &[u8]) {
+pub(crate) fn show_checked(rt: HostRuntime, bytes: &[u8]) {
     let c = reader::check(bytes);
     let mut values = [0u64; 13];
     values[0] = c.answer as u64;
     values[1] = c.size as u64;
-    showing::show(b" check # n #", values);
-    showing::byte(10);
+    showing::show(rt, b" check # n #", values);
+    showing::byte(rt, 10);
 }

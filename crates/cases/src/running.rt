@@ -3,9 +3,10 @@ use crate::reading::Numbers;
 use crate::{showing, writing};
 use machine::Ran;
 
-fn show_ran(r: Ran) {
+fn show_ran(rt: HostRuntime, r: Ran) {
     let cpu = r.cpu;
     showing::show(
+        rt,
         b" answer # steps # pc # prev # jumped # next #\n",
         [
             r.answer as u64,
@@ -26,7 +27,7 @@ fn show_ran(r: Ran) {
 }
 
 // A trip to the writer, or a run whose next and budget are handed in.
-pub(crate) fn show_loaded_and(kind: u8, strict: bool, bytes: &[u8], n: Numbers) {
+pub(crate) fn show_loaded_and(rt: HostRuntime, kind: u8, strict: bool, bytes: &[u8], n: Numbers) {
     let mut words = [0u32; 2048];
     let mut owners = [0u32; 2048];
     let mut jumpers = [0u64; 2048];
@@ -43,16 +44,19 @@ pub(crate) fn show_loaded_and(kind: u8, strict: bool, bytes: &[u8], n: Numbers) 
     );
     let mut cpu = l.cpu;
     if kind == b't' {
-        writing::show_rewritten(bytes, &words, cpu);
+        writing::show_rewritten(rt, bytes, &words, cpu);
         return;
     }
     cpu.next = (n.first % 4294967296) as u32;
-    show_ran(cpu.run(
-        &mut words,
-        &mut owners,
-        &mut jumpers,
-        &mut writers,
-        &mut readers,
-        (n.second % 4294967296) as u32,
-    ));
+    show_ran(
+        rt,
+        cpu.run(
+            &mut words,
+            &mut owners,
+            &mut jumpers,
+            &mut writers,
+            &mut readers,
+            (n.second % 4294967296) as u32,
+        ),
+    );
 }

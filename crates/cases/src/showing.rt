@@ -1,42 +1,41 @@
 // Names, lines of numbers, and one number for the contents of a list.
 use crate::reading;
-use libc::STDOUT_FILENO;
 
-pub(crate) fn byte(b: u8) {
-    io::write_all(STDOUT_FILENO, &[b]);
+pub(crate) fn byte(rt: HostRuntime, b: u8) {
+    streams::write_all(&mut rt.stdout(), &[b]);
 }
 
 // Shows a text from `at` up to a byte that is not above `last`; returns the place after it.
-pub(crate) fn name(text: &[u8], at: usize, last: u8) -> usize {
+pub(crate) fn name(rt: HostRuntime, text: &[u8], at: usize, last: u8) -> usize {
     let next = reading::past(text, at, last);
     if at < next {
         if next <= text.len() {
             let end = next - 1;
-            io::write_all(STDOUT_FILENO, &text[at..end]);
+            streams::write_all(&mut rt.stdout(), &text[at..end]);
         }
     }
     next
 }
 
 // A byte of a form: for `#` the value at k. Returns the place of the next value.
-fn piece(b: u8, values: [u64; 13], k: usize) -> usize {
+fn piece(rt: HostRuntime, b: u8, values: [u64; 13], k: usize) -> usize {
     if b != 35 {
-        byte(b);
+        byte(rt, b);
         return k;
     }
     if k < 13 {
-        io::print_decimal(STDOUT_FILENO, values[k]);
+        let _ = rt.stdout().print(values[k]);
         return k + 1;
     }
     k
 }
 
 // A form, with the next value in the place of each `#`.
-pub(crate) fn show(form: &[u8], values: [u64; 13]) {
+pub(crate) fn show(rt: HostRuntime, form: &[u8], values: [u64; 13]) {
     let mut k = 0;
     let mut i = 0;
     while i < form.len() {
-        k = piece(form[i], values, k);
+        k = piece(rt, form[i], values, k);
         i += 1;
     }
 }

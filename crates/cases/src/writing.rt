@@ -51,10 +51,11 @@ fn rewritten(bytes: &[u8], words: &[u32], regs: &[u32; 16], entry: u32) -> [u64;
 }
 
 // The words and the record that an image was loaded into.
-pub(crate) fn show_rewritten(bytes: &[u8], words: &[u32], cpu: Processor) {
+pub(crate) fn show_rewritten(rt: HostRuntime, bytes: &[u8], words: &[u32], cpu: Processor) {
     let regs = cpu.regs;
     let n = reading::within(cpu.n as usize, words.len());
     showing::show(
+        rt,
         b" answer # length # same # kept #\n",
         rewritten(bytes, &words[..n], &regs, cpu.pc),
     );
@@ -70,18 +71,19 @@ fn fill_words(words: &mut [u32]) {
 }
 
 // Write, then load into memories of as many places.
-fn show_back(words: &[u32], regs: &[u32; 16], entry: u32, out: &mut [u8]) {
+fn show_back(rt: HostRuntime, words: &[u32], regs: &[u32; 16], entry: u32, out: &mut [u8]) {
     let w = writer::write(words, regs, entry, out);
     showing::show(
+        rt,
         b" answer # length # out #\nback",
         row(w, showing::sum_of_bytes(out), 0),
     );
     let length = reading::within(w.length, out.len());
-    loading::show_loaded(false, &out[..length], loading::equal(words.len()));
+    loading::show_loaded(rt, false, &out[..length], loading::equal(words.len()));
 }
 
 // The registers are the bytes' first sixteen words; how many words, the entry and the room are handed in.
-pub(crate) fn show_written(bytes: &[u8], given: Numbers) {
+pub(crate) fn show_written(rt: HostRuntime, bytes: &[u8], given: Numbers) {
     let n = reading::within(given.first, 2050);
     let entry = (given.second % 4294967296) as u32;
     let room = reading::within(given.third, 8280);
@@ -89,5 +91,5 @@ pub(crate) fn show_written(bytes: &[u8], given: Numbers) {
     let mut words = [0u32; 2050];
     fill_words(&mut words);
     let mut out = [170u8; 8280];
-    show_back(&words[..n], &regs, entry, &mut out[..room]);
+    show_back(rt, &words[..n], &regs, entry, &mut out[..room]);
 }

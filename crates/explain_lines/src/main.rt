@@ -3,7 +3,6 @@
 // A source stands behind a line `== name`, up to the line feed before the next such line or the end. A name that begins with s is run in
 // strict mode. Each run has 1,000 steps.
 #![tactic(auto)]
-use libc::{STDIN_FILENO, STDOUT_FILENO};
 
 const BUDGET: u32 = 1000;
 
@@ -28,23 +27,23 @@ fn case_end(text: &[u8], at: usize) -> usize {
     p
 }
 
-fn print(text: &[u8]) {
-    streams::write_all(STDOUT_FILENO, text);
+fn print(rt: HostRuntime, text: &[u8]) {
+    streams::write_all(&mut rt.stdout(), text);
 }
 
-fn explained(strict: bool, source: &[u8]) {
+fn explained(rt: HostRuntime, strict: bool, source: &[u8]) {
     let mut image = [0u8; 8272];
     let a = assembler::assemble(source, &mut image);
     if a.answer != answers::DONE {
-        print(b"the source was refused\n");
+        print(rt, b"the source was refused\n");
         return;
     }
     let n = streams::within(a.length, &image);
-    telling::explain::explain(strict, &image[..n], BUDGET);
+    telling::explain::explain(rt, strict, &image[..n], BUDGET);
 }
 
 // The case whose name stands from `at` to `name` and whose source stands behind that line, up to `end`.
-fn show(text: &[u8], at: usize, name: usize, end: usize) {
+fn show(rt: HostRuntime, text: &[u8], at: usize, name: usize, end: usize) {
     if name < at {
         return;
     }
@@ -55,25 +54,25 @@ fn show(text: &[u8], at: usize, name: usize, end: usize) {
         return;
     }
     let body = name + 1;
-    print(b"== ");
-    print(&text[at..name]);
-    print(b"\n");
-    explained(byte(text, at) == b's', &text[body..end]);
+    print(rt, b"== ");
+    print(rt, &text[at..name]);
+    print(rt, b"\n");
+    explained(rt, byte(text, at) == b's', &text[body..end]);
 }
 
 // The case whose name begins at a place; answers where it ends.
-fn show_case(text: &[u8], at: usize) -> usize {
+fn show_case(rt: HostRuntime, text: &[u8], at: usize) -> usize {
     let name = tokens::line_end(text, at);
     let end = case_end(text, name);
-    show(text, at, name, end);
+    show(rt, text, at, name, end);
     end
 }
 
-fn show_all(text: &[u8]) {
+fn show_all(rt: HostRuntime, text: &[u8]) {
     let mut at = 3;
     let mut left = text.len();
     while left > 0 {
-        let end = show_case(text, at);
+        let end = show_case(rt, text, at);
         if end >= text.len() {
             return;
         }
@@ -85,9 +84,9 @@ fn show_all(text: &[u8]) {
     }
 }
 
-fn main() {
+fn main(rt: HostRuntime) {
     let mut text = streams::source_buffer();
-    let got = streams::read_all(STDIN_FILENO, &mut text);
+    let got = streams::read_all(&mut rt.stdin(), &mut text);
     let n = got.count;
-    show_all(&text[..n]);
+    show_all(rt, &text[..n]);
 }

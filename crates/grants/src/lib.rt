@@ -1,5 +1,6 @@
 // What a compartment owns and may do, as ranges of addresses.
 #![tactic(auto)]
+
 use compartments::Set;
 use lines::say;
 use machine::Processor;
@@ -60,20 +61,20 @@ fn has(
 }
 
 // One range, a single address as itself.
-fn tell_range(first: u32, past: u32) -> bool {
+fn tell_range(rt: HostRuntime, first: u32, past: u32) -> bool {
     let last = std::num::wrapping_sub_u32(past, 1);
     if last == first {
-        return tell_one(b"#", first);
+        return tell_one(rt, b"#", first);
     }
-    tell(b"#-#", [first, last, 0, 0])
+    tell(rt, b"#-#", [first, last, 0, 0])
 }
 
 // A range behind a list's text, or behind a comma where it is not the first.
-fn tell_next(lead: &[u8], told: bool, first: u32, past: u32) -> bool {
+fn tell_next(rt: HostRuntime, lead: &[u8], told: bool, first: u32, past: u32) -> bool {
     if told {
-        return say(b", ") && tell_range(first, past);
+        return say(rt, b", ") && tell_range(rt, first, past);
     }
-    say(lead) && tell_range(first, past)
+    say(rt, lead) && tell_range(rt, first, past)
 }
 
 // What came of a list: whether something was told, and whether it could not be written.
@@ -85,6 +86,7 @@ pub struct Listed {
 
 // The addresses of one kind as ranges, behind a text; nothing where there is none.
 pub fn list(
+    rt: HostRuntime,
     kind: u32,
     c: u32,
     lead: &[u8],
@@ -107,7 +109,7 @@ pub fn list(
             }
         } else {
             if open {
-                if !tell_next(lead, told, first, x) {
+                if !tell_next(rt, lead, told, first, x) {
                     return Listed { told, failed: true };
                 }
                 told = true;
@@ -117,7 +119,7 @@ pub fn list(
         x += 1;
     }
     if open {
-        let failed = !tell_next(lead, told, first, PAST);
+        let failed = !tell_next(rt, lead, told, first, PAST);
         return Listed { told: true, failed };
     }
     Listed {
@@ -128,6 +130,7 @@ pub fn list(
 
 // A line for a compartment; answers whether it was written.
 fn tell_compartment(
+    rt: HostRuntime,
     c: u32,
     cpu: Processor,
     owners: &[u32],
@@ -135,19 +138,20 @@ fn tell_compartment(
     writers: &[u64],
     readers: &[u64],
 ) -> bool {
-    if !tell_one(b"#: owns ", c) {
+    if !tell_one(rt, b"#: owns ", c) {
         return false;
     }
-    let own = list(OWNS, c, b"", cpu, owners, jumpers, writers, readers);
+    let own = list(rt, OWNS, c, b"", cpu, owners, jumpers, writers, readers);
     if own.failed {
         return false;
     }
     if !own.told {
-        if !say(b"nothing") {
+        if !say(rt, b"nothing") {
             return false;
         }
     }
     let jump = list(
+        rt,
         JUMPS,
         c,
         b"; may jump to ",
@@ -161,6 +165,7 @@ fn tell_compartment(
         return false;
     }
     let store = list(
+        rt,
         STORES,
         c,
         b"; may store to ",
@@ -175,6 +180,7 @@ fn tell_compartment(
     }
     if cpu.strict {
         let read = list(
+            rt,
             READS,
             c,
             b"; may read ",
@@ -188,11 +194,12 @@ fn tell_compartment(
             return false;
         }
     }
-    say(b"\n")
+    say(rt, b"\n")
 }
 
 // A line for each compartment below next.
 pub fn tell_compartments(
+    rt: HostRuntime,
     cpu: Processor,
     owners: &[u32],
     jumpers: &[u64],
@@ -202,7 +209,7 @@ pub fn tell_compartments(
     let next = cpu.next;
     let mut c = 0;
     while c < next {
-        if !tell_compartment(c, cpu, owners, jumpers, writers, readers) {
+        if !tell_compartment(rt, c, cpu, owners, jumpers, writers, readers) {
             return false;
         }
         c += 1;
@@ -211,22 +218,22 @@ pub fn tell_compartments(
 }
 
 // The numbers in a set, or nobody.
-pub fn tell_members(lead: &[u8], set: u64) -> bool {
-    if !say(lead) {
+pub fn tell_members(rt: HostRuntime, lead: &[u8], set: u64) -> bool {
+    if !say(rt, lead) {
         return false;
     }
     if set == 0 {
-        return say(b"nobody");
+        return say(rt, b"nobody");
     }
-    tell_numbers(set)
+    tell_numbers(rt, set)
 }
 
-fn tell_numbers(set: u64) -> bool {
+fn tell_numbers(rt: HostRuntime, set: u64) -> bool {
     let mut told = false;
     let mut c = 0;
     while c < 64 {
         if Set(set).contains(c) {
-            if !tell_number(told, c) {
+            if !tell_number(rt, told, c) {
                 return false;
             }
             told = true;
@@ -236,9 +243,9 @@ fn tell_numbers(set: u64) -> bool {
     true
 }
 
-fn tell_number(told: bool, c: u32) -> bool {
+fn tell_number(rt: HostRuntime, told: bool, c: u32) -> bool {
     if told {
-        return tell_one(b", #", c);
+        return tell_one(rt, b", #", c);
     }
-    tell_one(b"#", c)
+    tell_one(rt, b"#", c)
 }

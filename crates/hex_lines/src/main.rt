@@ -4,7 +4,7 @@
 // A line has the length of the buffer, the entry, the value of r0, each in decimal, and the text, in which / stands for LF and ~ for CR.
 // A line that begins with # is printed as it is.
 #![tactic(auto)]
-use libc::STDIN_FILENO;
+
 use outcomes::MARK;
 
 // A number, and the place behind it and one blank.
@@ -71,24 +71,24 @@ fn unfold(line: &[u8], at: usize, text: &mut [u8]) -> usize {
     n
 }
 
-fn import_into(text: &[u8], regs: &[u32; 16], entry: u32, out: &mut [u8]) {
+fn import_into(rt: HostRuntime, text: &[u8], regs: &[u32; 16], entry: u32, out: &mut [u8]) {
     let i = importer::import(text, regs, entry, out);
-    outcomes::print_outcome(i.answer, i.line, i.length, 0, 0, out);
+    outcomes::print_outcome(rt, i.answer, i.line, i.length, 0, 0, out);
 }
 
 // Imports a text into the first places of a buffer of marks, with all registers but r0 at 0.
-fn imported(text: &[u8], room: usize, entry: u32, r0: u32) {
+fn imported(rt: HostRuntime, text: &[u8], room: usize, entry: u32, r0: u32) {
     let mut out = [MARK; 8272];
     let n = streams::within(room, &out);
     let mut regs = [0u32; 16];
     regs[0] = r0;
-    import_into(text, &regs, entry, &mut out[..n]);
+    import_into(rt, text, &regs, entry, &mut out[..n]);
 }
 
-fn case(line: &[u8]) {
+fn case(rt: HostRuntime, line: &[u8]) {
     if byte(line, 0) == b'#' {
-        outcomes::print(line);
-        outcomes::print(b"\n");
+        outcomes::print(rt, line);
+        outcomes::print(rt, b"\n");
         return;
     }
     let room = number(line, 0);
@@ -97,11 +97,11 @@ fn case(line: &[u8]) {
     let mut text = [0u8; 1024];
     let length = unfold(line, r0.next, &mut text);
     let n = streams::within(length, &text);
-    imported(&text[..n], room.value as usize, entry.value, r0.value);
+    imported(rt, &text[..n], room.value as usize, entry.value, r0.value);
 }
 
 // The case at a place, if its line has one; answers the place of its LF, or one behind the end.
-fn show_case(text: &[u8], at: usize) -> usize {
+fn show_case(rt: HostRuntime, text: &[u8], at: usize) -> usize {
     let end = tokens::line_end(text, at);
     if end <= at {
         return end;
@@ -109,15 +109,15 @@ fn show_case(text: &[u8], at: usize) -> usize {
     if text.len() < end {
         return end;
     }
-    case(&text[at..end]);
+    case(rt, &text[at..end]);
     end
 }
 
-fn show_all(text: &[u8]) {
+fn show_all(rt: HostRuntime, text: &[u8]) {
     let mut at = 0;
     let mut left = text.len();
     while left > 0 {
-        let end = show_case(text, at);
+        let end = show_case(rt, text, at);
         if end >= text.len() {
             return;
         }
@@ -126,9 +126,9 @@ fn show_all(text: &[u8]) {
     }
 }
 
-fn main() {
+fn main(rt: HostRuntime) {
     let mut text = streams::source_buffer();
-    let got = streams::read_all(STDIN_FILENO, &mut text);
+    let got = streams::read_all(&mut rt.stdin(), &mut text);
     let n = got.count;
-    show_all(&text[..n]);
+    show_all(rt, &text[..n]);
 }

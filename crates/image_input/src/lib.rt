@@ -1,13 +1,13 @@
 // The words of an image on standard input, for a program that writes them in a form without registers and entry. What went wrong goes to
 // standard error, `refused N` or a sentence; and so does what such a form cannot say.
 #![tactic(auto)]
-ghost use Rattle.io.specs.Counts.{IsPrefixLen};
 
-use libc::{STDERR_FILENO, STDIN_FILENO};
+ghost use Rattle.std.specs.Counts.{IsPrefixLen};
+
 use machine::Processor;
 
-pub fn say(text: &[u8]) {
-    streams::write_all(STDERR_FILENO, text);
+pub fn say(rt: HostRuntime, text: &[u8]) {
+    streams::write_all(&mut rt.stderr(), text);
 }
 
 // Whether a register is not 0.
@@ -23,18 +23,18 @@ fn has_registers(regs: &[u32; 16]) -> bool {
 }
 
 // The form has the entry 0 and no registers.
-fn tell_lost(cpu: Processor) {
+fn tell_lost(rt: HostRuntime, cpu: Processor) {
     if cpu.pc != 0 {
-        say(b"lost entry\n");
+        say(rt, b"lost entry\n");
     }
     let regs = cpu.regs;
     if has_registers(&regs) {
-        say(b"lost registers\n");
+        say(rt, b"lost registers\n");
     }
 }
 
 // Loads an image; answers how many words it has, or 0 where it is refused.
-fn load(bytes: &[u8], words: &mut [u32; 2048]) -> usize {
+fn load(rt: HostRuntime, bytes: &[u8], words: &mut [u32; 2048]) -> usize {
     let mut owners = [0u32; 2048];
     let mut jumpers = [0u64; 2048];
     let mut writers = [0u64; 2048];
@@ -49,27 +49,27 @@ fn load(bytes: &[u8], words: &mut [u32; 2048]) -> usize {
     );
     let answer = l.answer;
     if answer != answers::DONE {
-        say(b"refused ");
-        io::print_decimal(STDERR_FILENO, answer as u64);
-        say(b"\n");
+        say(rt, b"refused ");
+        let _ = rt.stderr().print(answer);
+        say(rt, b"\n");
         return 0;
     }
     let cpu = l.cpu;
-    tell_lost(cpu);
+    tell_lost(rt, cpu);
     cpu.n as usize
 }
 
 // Fills the words of the image; answers how many there are, or 0 where there is none, which was said.
-pub fn read_words(words: &mut [u32; 2048]) -> usize
+pub fn read_words(rt: HostRuntime, words: &mut [u32; 2048]) -> usize
     ensures { IsPrefixLen result words.new }
 {
     let mut bytes = [0u8; 8273];
-    let got = streams::read_all(STDIN_FILENO, &mut bytes);
+    let got = streams::read_all(&mut rt.stdin(), &mut bytes);
     if got.failed {
-        say(b"the image could not be read\n");
+        say(rt, b"the image could not be read\n");
         return 0;
     }
     let n = got.count;
-    let k = load(&bytes[..n], words);
+    let k = load(rt, &bytes[..n], words);
     streams::words_within(k, words)
 }

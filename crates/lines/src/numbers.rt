@@ -1,4 +1,5 @@
 // Whole numbers in the program's arguments.
+use std::rt::Env;
 
 // A decimal digit goes on a number; a number past 32 bits stays at the largest.
 fn grown(number: u32, digit: u8) -> u32 {
@@ -23,11 +24,11 @@ fn value(digits: &[u8]) -> u32 {
 }
 
 // Argument i as a number, or the one that is meant where it is missing.
-pub fn argument(i: usize, otherwise: u32) -> u32 {
+pub fn argument(rt: HostRuntime, i: usize, otherwise: u32) -> u32 {
     let mut digits = [0u8; 16];
-    let n = os::arg(i, &mut digits);
-    if n == 0 {
-        return otherwise;
+    match rt.arg(i, &mut digits) {
+        Ok(0) => otherwise,
+        Ok(n) => value(&digits[..n]),
+        Err(_) => otherwise,
     }
-    value(&digits[..n])
 }

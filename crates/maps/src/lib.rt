@@ -1,6 +1,7 @@
 // The memory at the end of a run, drawn: a character or a cell for each word, by its owner. What is drawn comes from calls whose promises
 // are whole; the drawing has no contract.
 #![tactic(auto)]
+
 mod cells;
 mod legend;
 mod picture;
@@ -9,7 +10,6 @@ mod plain;
 mod shapes;
 mod tags;
 
-use libc::STDIN_FILENO;
 use lines::numbers::argument;
 use lines::{complain, end, note};
 use machine::Ran;
@@ -35,6 +35,7 @@ fn status_of(answer: u32) -> u32 {
 
 // Draws what a run came to; answers its status.
 fn draw(
+    rt: HostRuntime,
     form: u32,
     ran: Ran,
     words: &[u32],
@@ -44,19 +45,19 @@ fn draw(
     readers: &[u64],
 ) -> u32 {
     let drawn = if form == 1 {
-        picture::draw(ran, words, owners, jumpers, writers, readers)
+        picture::draw(rt, ran, words, owners, jumpers, writers, readers)
     } else {
-        plain::draw(ran, owners, jumpers, writers, readers)
+        plain::draw(rt, ran, owners, jumpers, writers, readers)
     };
     if !drawn {
-        complain(b"the map could not be written\n");
+        complain(rt, b"the map could not be written\n");
         return NOT_DRAWN;
     }
     status_of(ran.answer)
 }
 
 // Runs an image in a mode, at most `budget` steps, and draws its memory in a form; answers its status.
-pub fn map(strict: bool, bytes: &[u8], budget: u32, form: u32) -> u32 {
+pub fn map(rt: HostRuntime, strict: bool, bytes: &[u8], budget: u32, form: u32) -> u32 {
     let mut words = [0u32; 2048];
     let mut owners = [0u32; 2048];
     let mut jumpers = [0u64; 2048];
@@ -72,7 +73,7 @@ pub fn map(strict: bool, bytes: &[u8], budget: u32, form: u32) -> u32 {
         &mut readers,
     );
     if l.answer != answers::DONE {
-        note(b"refused ", l.answer);
+        note(rt, b"refused ", l.answer);
         return REFUSED;
     }
     let cpu = l.cpu;
@@ -84,21 +85,21 @@ pub fn map(strict: bool, bytes: &[u8], budget: u32, form: u32) -> u32 {
         &mut readers,
         budget,
     );
-    draw(form, ran, &words, &owners, &jumpers, &writers, &readers)
+    draw(rt, form, ran, &words, &owners, &jumpers, &writers, &readers)
 }
 
 // Draws the image on standard input.
-pub fn map_input() {
+pub fn map_input(rt: HostRuntime) {
     let mut bytes = [0u8; 8273];
-    let got = streams::read_all(STDIN_FILENO, &mut bytes);
+    let got = streams::read_all(&mut rt.stdin(), &mut bytes);
     if got.failed {
-        complain(b"the image could not be read\n");
-        end(NOT_DRAWN);
+        complain(rt, b"the image could not be read\n");
+        end(rt, NOT_DRAWN);
         return;
     }
     let n = got.count;
-    let budget = argument(1, 100000);
-    let strict = argument(2, 0) == 1;
-    let form = argument(3, 0);
-    end(map(strict, &bytes[..n], budget, form));
+    let budget = argument(rt, 1, 100000);
+    let strict = argument(rt, 2, 0) == 1;
+    let form = argument(rt, 3, 0);
+    end(rt, map(rt, strict, &bytes[..n], budget, form));
 }

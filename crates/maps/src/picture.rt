@@ -62,52 +62,53 @@ fn measured(cpu: Processor, owners: &[u32]) -> Frame {
     }
 }
 
-fn begin(f: Frame) -> bool {
+fn begin(rt: HostRuntime, f: Frame) -> bool {
     if !tell(
+        rt,
         b"<svg xmlns='http://www.w3.org/2000/svg' width='",
         f.width,
         b"' ",
     ) {
         return false;
     }
-    if !tell(b"height='", f.height, b"' ") {
+    if !tell(rt, b"height='", f.height, b"' ") {
         return false;
     }
-    if !tell(b"viewBox='0 0 ", f.width, b" ") {
+    if !tell(rt, b"viewBox='0 0 ", f.width, b" ") {
         return false;
     }
-    if !tell(b"", f.height, b"'>\n") {
+    if !tell(rt, b"", f.height, b"'>\n") {
         return false;
     }
-    say_style()
+    say_style(rt)
 }
 
 // How the run ended, above the map.
-fn draw_end(ran: Ran) -> bool {
-    if !begin_text(b"<text class='h' x='", 16, 20) {
+fn draw_end(rt: HostRuntime, ran: Ran) -> bool {
+    if !begin_text(rt, b"<text class='h' x='", 16, 20) {
         return false;
     }
-    if !tell_end(ran.answer, ran.count, ran.cpu) {
+    if !tell_end(rt, ran.answer, ran.count, ran.cpu) {
         return false;
     }
-    say(b"</text>\n")
+    say(rt, b"</text>\n")
 }
 
 // A number above each eighth column.
-fn draw_number(i: u32) -> bool {
+fn draw_number(rt: HostRuntime, i: u32) -> bool {
     if i % 8 != 0 {
         return true;
     }
-    if !begin_text(b"<text class='n' x='", cell_place(57, i), 45) {
+    if !begin_text(rt, b"<text class='n' x='", cell_place(57, i), 45) {
         return false;
     }
-    tell(b"", i, b"</text>\n")
+    tell(rt, b"", i, b"</text>\n")
 }
 
-fn draw_ruler(columns: u32) -> bool {
+fn draw_ruler(rt: HostRuntime, columns: u32) -> bool {
     let mut i = 0;
     while i < columns {
-        if !draw_number(i) {
+        if !draw_number(rt, i) {
             return false;
         }
         i += 1;
@@ -116,41 +117,42 @@ fn draw_ruler(columns: u32) -> bool {
 }
 
 // The address in front of a row.
-fn draw_address(x: u32, y: u32) -> bool {
-    if !begin_text(b"<text class='a' x='", 42, plus(y, 13)) {
+fn draw_address(rt: HostRuntime, x: u32, y: u32) -> bool {
+    if !begin_text(rt, b"<text class='a' x='", 42, plus(y, 13)) {
         return false;
     }
-    tell(b"", x, b"</text>\n")
+    tell(rt, b"", x, b"</text>\n")
 }
 
-fn draw_cell(x: u32, y: u32, address: u32, word: u32, cell: Cell) -> bool {
-    if !begin_cell(cell.owner, x, y) {
+fn draw_cell(rt: HostRuntime, x: u32, y: u32, address: u32, word: u32, cell: Cell) -> bool {
+    if !begin_cell(rt, cell.owner, x, y) {
         return false;
     }
-    if !say_tags(address, word, cell) {
+    if !say_tags(rt, address, word, cell) {
         return false;
     }
-    if !end_cell(glyph(cell.owner)) {
+    if !end_cell(rt, glyph(cell.owner)) {
         return false;
     }
-    if !say_marks(cell) {
+    if !say_marks(rt, cell) {
         return false;
     }
-    say(b"</g>\n")
+    say(rt, b"</g>\n")
 }
 
 // Word x, and the row's address in front of its first.
-fn draw_word(x: u32, word: u32, cell: Cell) -> bool {
+fn draw_word(rt: HostRuntime, x: u32, word: u32, cell: Cell) -> bool {
     let y = cell_place(TOP, x / ROW);
     if x % ROW == 0 {
-        if !draw_address(x, y) {
+        if !draw_address(rt, x, y) {
             return false;
         }
     }
-    draw_cell(cell_place(LEFT, x % ROW), y, x, word, cell)
+    draw_cell(rt, cell_place(LEFT, x % ROW), y, x, word, cell)
 }
 
 fn draw_words(
+    rt: HostRuntime,
     cpu: Processor,
     words: &[u32],
     owners: &[u32],
@@ -161,7 +163,7 @@ fn draw_words(
     let mut x = 0;
     while x < cpu.n {
         let cell = cell_at(x, cpu, owners, jumpers, writers, readers);
-        if !draw_word(x, memory::word_at(words, x), cell) {
+        if !draw_word(rt, x, memory::word_at(words, x), cell) {
             return false;
         }
         x += 1;
@@ -170,39 +172,39 @@ fn draw_words(
 }
 
 // An owner of the legend.
-fn draw_owner(c: u32, count: u32, x: u32, y: u32) -> bool {
-    if !begin_cell(c, x, y) {
+fn draw_owner(rt: HostRuntime, c: u32, count: u32, x: u32, y: u32) -> bool {
+    if !begin_cell(rt, c, x, y) {
         return false;
     }
-    if !end_cell(glyph(c)) {
+    if !end_cell(rt, glyph(c)) {
         return false;
     }
-    if !begin_text(b"</g><text x='", plus(x, 26), plus(y, 13)) {
+    if !begin_text(rt, b"</g><text x='", plus(x, 26), plus(y, 13)) {
         return false;
     }
-    if !tell_count(c, count) {
+    if !tell_count(rt, c, count) {
         return false;
     }
-    say(b"</text>\n")
+    say(rt, b"</text>\n")
 }
 
 // The i-th owner, in its place.
-fn draw_entry(f: Frame, i: u32, c: u32, count: u32) -> bool {
+fn draw_entry(rt: HostRuntime, f: Frame, i: u32, c: u32, count: u32) -> bool {
     if f.across == 0 {
         return true;
     }
     let x = entry_place(16, i % f.across);
     let y = line_place(f.owners, i / f.across);
-    draw_owner(c, count, x, y)
+    draw_owner(rt, c, count, x, y)
 }
 
-fn draw_owners(f: Frame, n: u32, owners: &[u32]) -> bool {
+fn draw_owners(rt: HostRuntime, f: Frame, n: u32, owners: &[u32]) -> bool {
     let mut i = 0;
     let mut c = 0;
     while c < 64 {
         let count = words_of(c, n, owners);
         if count != 0 {
-            if !draw_entry(f, i, c, count) {
+            if !draw_entry(rt, f, i, c, count) {
                 return false;
             }
             i = plus(i, 1);
@@ -213,29 +215,29 @@ fn draw_owners(f: Frame, n: u32, owners: &[u32]) -> bool {
 }
 
 // A mark in a cell without an owner's character, and what it means.
-fn draw_meaning(kind: u32, y: u32) -> bool {
-    if !begin_cell(0, 16, y) {
+fn draw_meaning(rt: HostRuntime, kind: u32, y: u32) -> bool {
+    if !begin_cell(rt, 0, 16, y) {
         return false;
     }
-    if !end_cell(32) {
+    if !end_cell(rt, 32) {
         return false;
     }
-    if !say_mark(kind) {
+    if !say_mark(rt, kind) {
         return false;
     }
-    if !begin_text(b"</g><text x='", 42, plus(y, 13)) {
+    if !begin_text(rt, b"</g><text x='", 42, plus(y, 13)) {
         return false;
     }
-    if !say_meaning(kind) {
+    if !say_meaning(rt, kind) {
         return false;
     }
-    say(b"</text>\n")
+    say(rt, b"</text>\n")
 }
 
-fn draw_meanings(f: Frame, kinds: u32) -> bool {
+fn draw_meanings(rt: HostRuntime, f: Frame, kinds: u32) -> bool {
     let mut kind = 0;
     while kind < kinds {
-        if !draw_meaning(kind, line_place(plus(f.legend, 11), kind)) {
+        if !draw_meaning(rt, kind, line_place(plus(f.legend, 11), kind)) {
             return false;
         }
         kind += 1;
@@ -243,31 +245,32 @@ fn draw_meanings(f: Frame, kinds: u32) -> bool {
     true
 }
 
-fn draw_characters(f: Frame) -> bool {
-    if !begin_text(b"<text x='", 16, f.legend) {
+fn draw_characters(rt: HostRuntime, f: Frame) -> bool {
+    if !begin_text(rt, b"<text x='", 16, f.legend) {
         return false;
     }
-    if !say_characters() {
+    if !say_characters(rt) {
         return false;
     }
-    say(b"; owners 16 apart have one colour</text>\n")
+    say(rt, b"; owners 16 apart have one colour</text>\n")
 }
 
-fn draw_legend(f: Frame, cpu: Processor, owners: &[u32]) -> bool {
-    if !draw_characters(f) {
+fn draw_legend(rt: HostRuntime, f: Frame, cpu: Processor, owners: &[u32]) -> bool {
+    if !draw_characters(rt, f) {
         return false;
     }
-    if !draw_meanings(f, kinds(cpu.strict)) {
+    if !draw_meanings(rt, f, kinds(cpu.strict)) {
         return false;
     }
-    if !draw_owners(f, cpu.n, owners) {
+    if !draw_owners(rt, f, cpu.n, owners) {
         return false;
     }
-    say(b"</svg>\n")
+    say(rt, b"</svg>\n")
 }
 
 // Draws what a run came to; answers whether all was written.
 pub(crate) fn draw(
+    rt: HostRuntime,
     ran: Ran,
     words: &[u32],
     owners: &[u32],
@@ -277,17 +280,17 @@ pub(crate) fn draw(
 ) -> bool {
     let cpu = ran.cpu;
     let f = measured(cpu, owners);
-    if !begin(f) {
+    if !begin(rt, f) {
         return false;
     }
-    if !draw_end(ran) {
+    if !draw_end(rt, ran) {
         return false;
     }
-    if !draw_ruler(f.columns) {
+    if !draw_ruler(rt, f.columns) {
         return false;
     }
-    if !draw_words(cpu, words, owners, jumpers, writers, readers) {
+    if !draw_words(rt, cpu, words, owners, jumpers, writers, readers) {
         return false;
     }
-    draw_legend(f, cpu, owners)
+    draw_legend(rt, f, cpu, owners)
 }

@@ -6,8 +6,11 @@ use lines::{say, tell, write};
 use machine::{Processor, Ran};
 
 // The numbers above the map's columns.
-fn say_ruler() -> bool {
-    say(b"      0       8       16      24      32      40      48      56\n")
+fn say_ruler(rt: HostRuntime) -> bool {
+    say(
+        rt,
+        b"      0       8       16      24      32      40      48      56\n",
+    )
 }
 
 // What is known of word x.
@@ -71,46 +74,47 @@ fn put_marks(
 }
 
 // Five columns in front of a row.
-fn say_address(x: u32) -> bool {
+fn say_address(rt: HostRuntime, x: u32) -> bool {
     if x < 10 {
-        return tell(b"    ", x, b" ");
+        return tell(rt, b"    ", x, b" ");
     }
     if x < 100 {
-        return tell(b"   ", x, b" ");
+        return tell(rt, b"   ", x, b" ");
     }
     if x < 1000 {
-        return tell(b"  ", x, b" ");
+        return tell(rt, b"  ", x, b" ");
     }
-    tell(b" ", x, b" ")
+    tell(rt, b" ", x, b" ")
 }
 
-fn say_kind(kind: u32) -> bool {
+fn say_kind(rt: HostRuntime, kind: u32) -> bool {
     match kind {
-        PC => say(b"   pc "),
-        JUMP => say(b" jump "),
-        STORE => say(b"store "),
-        _ => say(b" read "),
+        PC => say(rt, b"   pc "),
+        JUMP => say(rt, b" jump "),
+        STORE => say(rt, b"store "),
+        _ => say(rt, b" read "),
     }
 }
 
-fn say_row(row: &[u8; 64], count: usize) -> bool {
-    if !write(row, count) {
+fn say_row(rt: HostRuntime, row: &[u8; 64], count: usize) -> bool {
+    if !write(rt, row, count) {
         return false;
     }
-    say(b"\n")
+    say(rt, b"\n")
 }
 
-fn draw_owners(first: u32, n: u32, owners: &[u32]) -> bool {
+fn draw_owners(rt: HostRuntime, first: u32, n: u32, owners: &[u32]) -> bool {
     let mut row = [32u8; 64];
     let count = put_owners(first, n, owners, &mut row);
-    if !say_address(first) {
+    if !say_address(rt, first) {
         return false;
     }
-    say_row(&row, count)
+    say_row(rt, &row, count)
 }
 
 // A line of marks, where there are any.
 fn draw_marks(
+    rt: HostRuntime,
     kind: u32,
     first: u32,
     cpu: Processor,
@@ -126,13 +130,14 @@ fn draw_marks(
     if count == 0 {
         return true;
     }
-    if !say_kind(kind) {
+    if !say_kind(rt, kind) {
         return false;
     }
-    say_row(&row, count)
+    say_row(rt, &row, count)
 }
 
 fn draw_kinds(
+    rt: HostRuntime,
     first: u32,
     cpu: Processor,
     owners: &[u32],
@@ -142,7 +147,7 @@ fn draw_kinds(
 ) -> bool {
     let mut kind = 0;
     while kind < 4 {
-        if !draw_marks(kind, first, cpu, owners, jumpers, writers, readers) {
+        if !draw_marks(rt, kind, first, cpu, owners, jumpers, writers, readers) {
             return false;
         }
         kind += 1;
@@ -151,6 +156,7 @@ fn draw_kinds(
 }
 
 fn draw_rows(
+    rt: HostRuntime,
     cpu: Processor,
     owners: &[u32],
     jumpers: &[u64],
@@ -161,10 +167,10 @@ fn draw_rows(
     let mut i = 0;
     while i < count {
         let first = row_start(i);
-        if !draw_owners(first, cpu.n, owners) {
+        if !draw_owners(rt, first, cpu.n, owners) {
             return false;
         }
-        if !draw_kinds(first, cpu, owners, jumpers, writers, readers) {
+        if !draw_kinds(rt, first, cpu, owners, jumpers, writers, readers) {
             return false;
         }
         i += 1;
@@ -174,6 +180,7 @@ fn draw_rows(
 
 // Draws what a run came to; answers whether all was written.
 pub(crate) fn draw(
+    rt: HostRuntime,
     ran: Ran,
     owners: &[u32],
     jumpers: &[u64],
@@ -181,20 +188,20 @@ pub(crate) fn draw(
     readers: &[u64],
 ) -> bool {
     let cpu = ran.cpu;
-    if !tell_end(ran.answer, ran.count, cpu) {
+    if !tell_end(rt, ran.answer, ran.count, cpu) {
         return false;
     }
-    if !say(b"\n") {
+    if !say(rt, b"\n") {
         return false;
     }
-    if !say_ruler() {
+    if !say_ruler(rt) {
         return false;
     }
-    if !draw_rows(cpu, owners, jumpers, writers, readers) {
+    if !draw_rows(rt, cpu, owners, jumpers, writers, readers) {
         return false;
     }
-    if !tell_owners(cpu.n, owners) {
+    if !tell_owners(rt, cpu.n, owners) {
         return false;
     }
-    tell_marks(kinds(cpu.strict))
+    tell_marks(rt, kinds(cpu.strict))
 }

@@ -1,10 +1,11 @@
 // The work of the sheet program: the names on standard input are read, each file's image is run, and its line and then the totals are
 // written. What the system reads and writes no contract can say; lines and totals come from calls whose promises are whole.
 #![tactic(auto)]
-ghost use Rattle.io.specs.Counts.{IsPrefixLen};
 
-use libc::{STDIN_FILENO, STDOUT_FILENO};
+ghost use Rattle.std.specs.Counts.{IsPrefixLen};
+
 use sheet::Totals;
+use std::fs::File;
 
 // After so many names the list ends, and no name is longer than so many bytes.
 const NAMES: u32 = 10000;
@@ -26,7 +27,7 @@ struct Night {
 }
 
 // The image in a file, or nothing where it cannot be read to its end or is longer than any image: nothing is refused as 20.
-fn take(name: &[u8], bytes: &mut [u8]) -> usize
+fn take(rt: HostRuntime, name: &[u8], bytes: &mut [u8]) -> usize
     ensures { IsPrefixLen result bytes.new }
 {
     if name.len() == 0 {
@@ -35,12 +36,13 @@ fn take(name: &[u8], bytes: &mut [u8]) -> usize
     if NAME < name.len() {
         return 0;
     }
-    let fd = os::open_read(name);
-    if fd < 0 {
+    let Ok(path) = std::str::from_utf8(name) else {
         return 0;
-    }
-    let got = streams::read_all(fd, bytes);
-    libc::close(fd);
+    };
+    let Ok(mut file) = File::open(&rt, path) else {
+        return 0;
+    };
+    let got = streams::read_all(&mut file, bytes);
     if got.failed {
         return 0;
     }
@@ -48,17 +50,17 @@ fn take(name: &[u8], bytes: &mut [u8]) -> usize
 }
 
 // Writes a text; answers whether that failed.
-fn write(text: &[u8], length: usize) -> bool {
+fn write(rt: HostRuntime, text: &[u8], length: usize) -> bool {
     let n = streams::within(length, text);
-    let moved = streams::write_all(STDOUT_FILENO, &text[..n]);
+    let moved = streams::write_all(&mut rt.stdout(), &text[..n]);
     moved.failed
 }
 
 // The line of the file with this name. The loader answers of a longer file what it answers of its first 8,273 bytes.
-fn run_name(strict: bool, name: &[u8], night: Night) -> Night {
+fn run_name(rt: HostRuntime, strict: bool, name: &[u8], night: Night) -> Night {
     let mut bytes = [0u8; 8273];
     let mut out = [0u8; sheet::LONGEST];
-    let n = take(name, &mut bytes);
+    let n = take(rt, name, &mut bytes);
     let l = sheet::line(strict, &bytes[..n], &mut out);
     let told = l.told;
     let note = l.note;
@@ -66,7 +68,7 @@ fn run_name(strict: bool, name: &[u8], night: Night) -> Night {
     Night {
         used: 0,
         names: std::num::wrapping_add_u32(night.names, 1),
-        failed: write(&out, told.length),
+        failed: write(rt, &out, told.length),
         totals: sheet::add(totals, note),
     }
 }
@@ -80,13 +82,13 @@ fn goes_on(night: Night) -> bool {
 }
 
 // One byte more of the list: one of a name, of which no more than 256 are kept, or its end.
-fn read_byte(strict: bool, byte: u8, name: &mut [u8], night: Night) -> Night {
+fn read_byte(rt: HostRuntime, strict: bool, byte: u8, name: &mut [u8], night: Night) -> Night {
     if !goes_on(night) {
         return night;
     }
     let used = streams::within(night.used, name);
     if byte == FEED {
-        return run_name(strict, &name[..used], night);
+        return run_name(rt, strict, &name[..used], night);
     }
     if used == name.len() {
         return night;
@@ -102,46 +104,46 @@ fn read_byte(strict: bool, byte: u8, name: &mut [u8], night: Night) -> Night {
 }
 
 // The bytes of the list that were read.
-fn read_bytes(strict: bool, bytes: &[u8], name: &mut [u8], night: Night) -> Night {
+fn read_bytes(rt: HostRuntime, strict: bool, bytes: &[u8], name: &mut [u8], night: Night) -> Night {
     let mut now = night;
     let mut i = 0;
     while i < bytes.len() {
-        now = read_byte(strict, bytes[i], name, now);
+        now = read_byte(rt, strict, bytes[i], name, now);
         i += 1;
     }
     now
 }
 
 // The totals' line; answers how the night ended.
-fn write_totals(strict: bool, totals: Totals) -> u32 {
+fn write_totals(rt: HostRuntime, strict: bool, totals: Totals) -> u32 {
     let mut out = [0u8; sheet::LONGEST_TOTALS];
     let told = sheet::total(strict, totals, &mut out);
-    if write(&out, told.length) {
-        card::say(b"the sheet could not be written\n");
+    if write(rt, &out, told.length) {
+        card::say(rt, b"the sheet could not be written\n");
         return printer::NOT_RUN;
     }
     sheet::ended(totals)
 }
 
 // The list has ended: its last name may lack its line feed.
-fn finish(strict: bool, name: &[u8], night: Night) -> u32 {
+fn finish(rt: HostRuntime, strict: bool, name: &[u8], night: Night) -> u32 {
     let mut last = night;
     if 0 < night.used {
         if goes_on(night) {
             let used = streams::within(night.used, name);
-            last = run_name(strict, &name[..used], night);
+            last = run_name(rt, strict, &name[..used], night);
         }
     }
     if last.failed {
-        card::say(b"the sheet could not be written\n");
+        card::say(rt, b"the sheet could not be written\n");
         return printer::NOT_RUN;
     }
     let totals = last.totals;
-    write_totals(strict, totals)
+    write_totals(rt, strict, totals)
 }
 
 // Reads the list to its end, and writes the sheet; answers how it ended.
-fn make(strict: bool) -> u32 {
+fn make(rt: HostRuntime, strict: bool) -> u32 {
     let mut bytes = [0u8; 4096];
     let mut name = [0u8; 256];
     let totals = sheet::none();
@@ -154,25 +156,25 @@ fn make(strict: bool) -> u32 {
     let mut reads: u64 = 0;
     while reads < READS {
         if !goes_on(night) {
-            return finish(strict, &name, night);
+            return finish(rt, strict, &name, night);
         }
-        let got = streams::read_all(STDIN_FILENO, &mut bytes);
+        let got = streams::read_all(&mut rt.stdin(), &mut bytes);
         if got.failed {
-            card::say(b"the list could not be read\n");
+            card::say(rt, b"the list could not be read\n");
             return printer::NOT_RUN;
         }
         let n = streams::within(got.count, &bytes);
         if n == 0 {
-            return finish(strict, &name, night);
+            return finish(rt, strict, &name, night);
         }
-        night = read_bytes(strict, &bytes[..n], &mut name, night);
+        night = read_bytes(rt, strict, &bytes[..n], &mut name, night);
         reads += 1;
     }
-    card::say(b"the list could not be read\n");
+    card::say(rt, b"the list could not be read\n");
     printer::NOT_RUN
 }
 
 // Makes the sheet of the list on standard input.
-pub fn make_sheet(strict: bool) {
-    card::tell(make(strict));
+pub fn make_sheet(rt: HostRuntime, strict: bool) {
+    card::tell(rt, make(rt, strict));
 }

@@ -1,8 +1,7 @@
 // What a call told that was to write an image, and what it left in the buffer, as a line of text: for programs that run cases.
 #![tactic(auto)]
-ghost use Rattle.std.specs.Prelude.{◌≤◌};
 
-use libc::STDOUT_FILENO;
+ghost use Rattle.std.specs.Prelude.{◌≤◌};
 
 // What stands in a buffer before a call.
 pub const MARK: u8 = 238;
@@ -10,13 +9,13 @@ pub const MARK: u8 = 238;
 // How many numbers of an image are shown at most.
 const SHOWN: usize = 14;
 
-pub fn print(text: &[u8]) {
-    streams::write_all(STDOUT_FILENO, text);
+pub fn print(rt: HostRuntime, text: &[u8]) {
+    streams::write_all(&mut rt.stdout(), text);
 }
 
-fn print_number(name: &[u8], value: u64) {
-    print(name);
-    io::print_decimal(STDOUT_FILENO, value);
+fn print_number(rt: HostRuntime, name: &[u8], value: u64) {
+    print(rt, name);
+    let _ = rt.stdout().print(value);
 }
 
 fn byte(text: &[u8], at: usize) -> u8 {
@@ -61,25 +60,34 @@ fn past(length: usize, first: u8, behind: u8) -> usize
     if n - left < most { n - left } else { most }
 }
 
-fn print_numbers(image: &[u8], length: usize, first: u8, behind: u8) {
+fn print_numbers(rt: HostRuntime, image: &[u8], length: usize, first: u8, behind: u8) {
     let n = past(length, first, behind);
     let mut i = first as usize;
     while i < n {
-        print(b" ");
-        io::print_hex(STDOUT_FILENO, number(image, i) as u64, 8);
+        print(rt, b" ");
+        let value = number(image, i);
+        let _ = print!(rt; "{value:08x}");
         i += 1;
     }
 }
 
 // The answer, the line and the length, the image's numbers from `first` on without the last `behind`, and whether the buffer beyond the
 // image kept its marks.
-pub fn print_outcome(answer: u32, line: u64, length: usize, first: u8, behind: u8, out: &[u8]) {
-    print_number(b"answer ", answer as u64);
-    print_number(b" line ", line);
-    print_number(b" length ", length as u64);
-    print_numbers(out, length, first, behind);
+pub fn print_outcome(
+    rt: HostRuntime,
+    answer: u32,
+    line: u64,
+    length: usize,
+    first: u8,
+    behind: u8,
+    out: &[u8],
+) {
+    print_number(rt, b"answer ", answer as u64);
+    print_number(rt, b" line ", line);
+    print_number(rt, b" length ", length as u64);
+    print_numbers(rt, out, length, first, behind);
     if !kept(out, length) {
-        print(b" CHANGED BEYOND");
+        print(rt, b" CHANGED BEYOND");
     }
-    print(b"\n");
+    print(rt, b"\n");
 }

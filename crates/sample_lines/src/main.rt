@@ -1,20 +1,19 @@
 // Assembles each sample's source and compares it with the sample's image; then writes the image's words as a source, assembles that, and
 // compares again. The samples stand in data/, as in samples/ at the root.
 #![tactic(auto)]
-use libc::STDOUT_FILENO;
 
-fn print(text: &[u8]) {
-    streams::write_all(STDOUT_FILENO, text);
+use std::fs::File;
+
+fn print(rt: HostRuntime, text: &[u8]) {
+    streams::write_all(&mut rt.stdout(), text);
 }
 
 // The bytes of a file at the front of the buffer; none where it cannot be read.
-fn take(path: &[u8], buf: &mut [u8]) -> usize {
-    let fd = os::open_read(path);
-    if fd < 0 {
+fn take(rt: HostRuntime, path: &str, buf: &mut [u8]) -> usize {
+    let Ok(mut file) = File::open(&rt, path) else {
         return 0;
-    }
-    let got = streams::read_all(fd, buf);
-    libc::close(fd);
+    };
+    let got = streams::read_all(&mut file, buf);
     got.count
 }
 
@@ -47,12 +46,12 @@ fn assembles(text: &[u8], image: &[u8]) -> bool {
     same(&out[..n], image)
 }
 
-fn judge(good: bool) {
+fn judge(rt: HostRuntime, good: bool) {
     if good {
-        print(b" yes");
+        print(rt, b" yes");
         return;
     }
-    print(b" NO");
+    print(rt, b" NO");
 }
 
 // Whether the listing of an image's words assembles to it.
@@ -78,23 +77,23 @@ fn lists(image: &[u8]) -> bool {
     assembles(&text[..k], image)
 }
 
-fn sample(name: &[u8], source: &[u8], image: &[u8]) {
-    let mut text = io::large_buffer();
+fn sample(rt: HostRuntime, name: &[u8], source: &str, image: &str) {
+    let mut text = [0u8; 65536];
     let mut bytes = [0u8; 8273];
-    let t = streams::within(take(source, &mut text), &text);
-    let b = streams::within(take(image, &mut bytes), &bytes);
-    print(name);
-    print(b": assembles to its image");
-    judge(assembles(&text[..t], &bytes[..b]));
-    print(b", its listing too");
-    judge(lists(&bytes[..b]));
-    print(b"\n");
+    let t = streams::within(take(rt, source, &mut text), &text);
+    let b = streams::within(take(rt, image, &mut bytes), &bytes);
+    print(rt, name);
+    print(rt, b": assembles to its image");
+    judge(rt, assembles(&text[..t], &bytes[..b]));
+    print(rt, b", its listing too");
+    judge(rt, lists(&bytes[..b]));
+    print(rt, b"\n");
 }
 
-fn main() {
-    sample(b"one", b"one.kl", b"one.img");
-    sample(b"two", b"two.kl", b"two.img");
-    sample(b"makers", b"makers.kl", b"makers.img");
-    sample(b"lesson", b"lesson.kl", b"lesson.img");
-    sample(b"calibration", b"calibration.kl", b"calibration.img");
+fn main(rt: HostRuntime) {
+    sample(rt, b"one", "one.kl", "one.img");
+    sample(rt, b"two", "two.kl", "two.img");
+    sample(rt, b"makers", "makers.kl", "makers.img");
+    sample(rt, b"lesson", "lesson.kl", "lesson.img");
+    sample(rt, b"calibration", "calibration.kl", "calibration.img");
 }

@@ -45,7 +45,7 @@ fn takes(mark: u8) -> u32 {
 }
 
 // Writes a form with its numbers to standard output.
-pub fn tell(form: &[u8], numbers: [u32; 4]) -> bool {
+pub fn tell(rt: HostRuntime, form: &[u8], numbers: [u32; 4]) -> bool {
     let mut line = [0u8; ROOM];
     let mut p = 0;
     let mut k = 0;
@@ -56,12 +56,12 @@ pub fn tell(form: &[u8], numbers: [u32; 4]) -> bool {
         k = std::num::wrapping_add_u32(k, takes(mark));
         i += 1;
     }
-    write(&line, p)
+    write(rt, &line, p)
 }
 
 // The same of one number.
-pub fn tell_one(form: &[u8], number: u32) -> bool {
-    tell(form, [number, 0, 0, 0])
+pub fn tell_one(rt: HostRuntime, form: &[u8], number: u32) -> bool {
+    tell(rt, form, [number, 0, 0, 0])
 }
 
 // A byte of the text that is meant; a bar is of none.
@@ -80,7 +80,7 @@ fn bar(mark: u8) -> u32 {
 }
 
 // Writes text k of those that stand between bars.
-pub fn tell_nth(texts: &[u8], k: u32) -> bool {
+pub fn tell_nth(rt: HostRuntime, texts: &[u8], k: u32) -> bool {
     let mut line = [0u8; ROOM];
     let mut p = 0;
     let mut bars = 0;
@@ -91,5 +91,5 @@ pub fn tell_nth(texts: &[u8], k: u32) -> bool {
         bars = std::num::wrapping_add_u32(bars, bar(mark));
         i += 1;
     }
-    write(&line, p)
+    write(rt, &line, p)
 }

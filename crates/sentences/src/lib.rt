@@ -1,4 +1,5 @@
 // Sentences with numbers, and the field that an image is refused for. The wording has no contract.
 #![tactic(auto)]
+
 pub mod forms;
 pub mod offsets;

@@ -71,12 +71,13 @@ fn name_of(i: u32, n: u32, k: u32) -> Named {
     }
 }
 
-fn tell_field(f: Named) -> bool {
+fn tell_field(rt: HostRuntime, f: Named) -> bool {
     let name = f.name;
     match name {
-        5 => tell_one(b"word #", f.number),
-        6 => tell_one(b"register #", f.number),
+        5 => tell_one(rt, b"word #", f.number),
+        6 => tell_one(rt, b"register #", f.number),
         _ => tell_nth(
+            rt,
             b"the number of words|the number of registers|the entry's count|the entry|what is behind the entry",
             name,
         ),
@@ -84,27 +85,29 @@ fn tell_field(f: Named) -> bool {
 }
 
 // What is wrong with the field.
-fn tell_fault(answer: u32, offset: u32, length: u32, value: u32) -> bool {
+fn tell_fault(rt: HostRuntime, answer: u32, offset: u32, length: u32, value: u32) -> bool {
     if answer == answers::NOT_WHOLE {
         return tell(
+            rt,
             b", at byte #, is not whole: the image has # bytes\n",
             [offset, length, 0, 0],
         );
     }
     if answer == answers::BYTES_LEFT {
-        return tell_one(b", at byte #, is nothing of an image\n", offset);
+        return tell_one(rt, b", at byte #, is nothing of an image\n", offset);
     }
-    tell(b", at byte #, is #\n", [offset, value, 0, 0])
+    tell(rt, b", at byte #, is #\n", [offset, value, 0, 0])
 }
 
 // "refused R: FIELD, at byte OFFSET, is V"
-pub fn tell_refusal(answer: u32, bytes: &[u8]) -> bool {
+pub fn tell_refusal(rt: HostRuntime, answer: u32, bytes: &[u8]) -> bool {
     let n = field(bytes, 0);
     let k = field(bytes, plus(n, 1));
     let i = refused_field(answer, bytes.len(), n, k);
-    tell_one(b"refused #: ", answer)
-        && tell_field(name_of(i, n, k))
+    tell_one(rt, b"refused #: ", answer)
+        && tell_field(rt, name_of(i, n, k))
         && tell_fault(
+            rt,
             answer,
             4 * (i % 65536),
             (bytes.len() % 1048576) as u32,

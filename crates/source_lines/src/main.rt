@@ -4,11 +4,10 @@
 // A text stands behind a line `== name`, up to the line feed before the next such line or the end. A name that begins with 20 or 19
 // has a buffer of so many bytes; all others have room for every image.
 #![tactic(auto)]
+
 mod show;
 
 ghost use Rattle.std.specs.Prelude.{◌≤◌, length};
-
-use libc::STDIN_FILENO;
 
 fn byte(text: &[u8], at: usize) -> u8 {
     if at < text.len() { text[at] } else { 0 }
@@ -43,18 +42,18 @@ fn case_end(text: &[u8], at: usize) -> usize {
 }
 
 // The case whose name begins at a place; answers the place of the next name, or one behind the end.
-fn show_case(text: &[u8], at: usize) -> usize {
+fn show_case(rt: HostRuntime, text: &[u8], at: usize) -> usize {
     let name = tokens::line_end(text, at);
     let end = case_end(text, name);
-    show::case(text, at, name, end);
+    show::case(rt, text, at, name, end);
     end
 }
 
-fn show_all(text: &[u8]) {
+fn show_all(rt: HostRuntime, text: &[u8]) {
     let mut at = 3;
     let mut left = text.len();
     while left > 0 {
-        let end = show_case(text, at);
+        let end = show_case(rt, text, at);
         if end >= text.len() {
             return;
         }
@@ -66,9 +65,9 @@ fn show_all(text: &[u8]) {
     }
 }
 
-fn main() {
+fn main(rt: HostRuntime) {
     let mut text = streams::source_buffer();
-    let got = streams::read_all(STDIN_FILENO, &mut text);
+    let got = streams::read_all(&mut rt.stdin(), &mut text);
     let n = got.count;
-    show_all(&text[..n]);
+    show_all(rt, &text[..n]);
 }

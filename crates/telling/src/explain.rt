@@ -58,28 +58,31 @@ fn came_from(strict: bool, bytes: &[u8], count: u32) -> Came {
     }
 }
 
-fn tell_end(answer: u32, count: u32, pc: u32) -> bool {
-    tell(b"answer # after # steps, at pc #: ", [answer, count, pc, 0])
-        && tell_answer(answer)
-        && say(b"\n")
+fn tell_end(rt: HostRuntime, answer: u32, count: u32, pc: u32) -> bool {
+    tell(
+        rt,
+        b"answer # after # steps, at pc #: ",
+        [answer, count, pc, 0],
+    ) && tell_answer(rt, answer)
+        && say(rt, b"\n")
 }
 
 // A register that is not 0, behind a comma where it is not the first.
-fn tell_register(told: bool, i: u32, value: u32) -> bool {
+fn tell_register(rt: HostRuntime, told: bool, i: u32, value: u32) -> bool {
     if told {
-        return tell(b", r# = #", [i, value, 0, 0]);
+        return tell(rt, b", r# = #", [i, value, 0, 0]);
     }
-    tell(b"registers: r# = #", [i, value, 0, 0])
+    tell(rt, b"registers: r# = #", [i, value, 0, 0])
 }
 
 // Whether a register was told, and whether it could not be written.
-fn list_registers(regs: &[u32; 16]) -> Listed {
+fn list_registers(rt: HostRuntime, regs: &[u32; 16]) -> Listed {
     let mut told = false;
     let mut i = 0;
     while i < 16 {
         let value = memory::word_at(regs, i);
         if value != 0 {
-            if !tell_register(told, i, value) {
+            if !tell_register(rt, told, i, value) {
                 return Listed { told, failed: true };
             }
             told = true;
@@ -92,28 +95,32 @@ fn list_registers(regs: &[u32; 16]) -> Listed {
     }
 }
 
-fn tell_registers(regs: &[u32; 16]) -> bool {
-    let l = list_registers(regs);
+fn tell_registers(rt: HostRuntime, regs: &[u32; 16]) -> bool {
+    let l = list_registers(rt, regs);
     if l.failed {
         return false;
     }
     if l.told {
-        return say(b"\n");
+        return say(rt, b"\n");
     }
-    say(b"registers: all are 0\n")
+    say(rt, b"registers: all are 0\n")
 }
 
-fn tell_word(x: u32, word: u32, was: u32) -> bool {
-    tell(b"word # is #, and was # in the image\n", [x, word, was, 0])
+fn tell_word(rt: HostRuntime, x: u32, word: u32, was: u32) -> bool {
+    tell(
+        rt,
+        b"word # is #, and was # in the image\n",
+        [x, word, was, 0],
+    )
 }
 
-fn tell_changes(n: u32, words: &[u32], first: &[u32]) -> bool {
+fn tell_changes(rt: HostRuntime, n: u32, words: &[u32], first: &[u32]) -> bool {
     let mut x = 0;
     while x < n {
         let word = memory::word_at(words, x);
         let was = memory::word_at(first, x);
         if word != was {
-            if !tell_word(x, word, was) {
+            if !tell_word(rt, x, word, was) {
                 return false;
             }
         }
@@ -132,6 +139,7 @@ pub(crate) fn status_of(answer: u32) -> u32 {
 
 // All that is told of a run that ended with `answer`.
 fn tell_run(
+    rt: HostRuntime,
     answer: u32,
     count: u32,
     came: Came,
@@ -143,27 +151,27 @@ fn tell_run(
     writers: &[u64],
     readers: &[u64],
 ) -> bool {
-    if !tell_end(answer, count, cpu.pc) {
+    if !tell_end(rt, answer, count, cpu.pc) {
         return false;
     }
     if answer != answers::DONE {
         let w = why::why(cpu, words, owners, jumpers, writers, readers);
-        if !tell_cause(w, cpu, words, owners, jumpers, writers, readers, came) {
+        if !tell_cause(rt, w, cpu, words, owners, jumpers, writers, readers, came) {
             return false;
         }
     }
     let regs = cpu.regs;
-    if !tell_registers(&regs) {
+    if !tell_registers(rt, &regs) {
         return false;
     }
-    if !tell_changes(cpu.n, words, first) {
+    if !tell_changes(rt, cpu.n, words, first) {
         return false;
     }
-    tell_compartments(cpu, owners, jumpers, writers, readers)
+    tell_compartments(rt, cpu, owners, jumpers, writers, readers)
 }
 
 // Explains an image's run in a mode, of at most `budget` steps; answers its status.
-pub fn explain(strict: bool, bytes: &[u8], budget: u32) -> u32 {
+pub fn explain(rt: HostRuntime, strict: bool, bytes: &[u8], budget: u32) -> u32 {
     let mut words = [0u32; 2048];
     let mut owners = [0u32; 2048];
     let mut jumpers = [0u64; 2048];
@@ -179,7 +187,7 @@ pub fn explain(strict: bool, bytes: &[u8], budget: u32) -> u32 {
         &mut readers,
     );
     if l.answer != answers::DONE {
-        if !tell_refusal(l.answer, bytes) {
+        if !tell_refusal(rt, l.answer, bytes) {
             return NOT_TOLD;
         }
         return REFUSED;
@@ -196,7 +204,7 @@ pub fn explain(strict: bool, bytes: &[u8], budget: u32) -> u32 {
     );
     let came = came_from(strict, bytes, r.count);
     if !tell_run(
-        r.answer, r.count, came, r.cpu, &words, &first, &owners, &jumpers, &writers, &readers,
+        rt, r.answer, r.count, came, r.cpu, &words, &first, &owners, &jumpers, &writers, &readers,
     ) {
         return NOT_TOLD;
     }

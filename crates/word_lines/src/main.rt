@@ -1,60 +1,59 @@
 // Runs the sheet's lines about words on the decoder and the encoder, and counts the words of a sample that decode.
 #![tactic(auto)]
-ghost use Rattle.std.specs.Prelude.{◌≤◌};
 
-use libc::STDOUT_FILENO;
+ghost use Rattle.std.specs.Prelude.{◌≤◌};
 
 // How many words the sample has.
 const SAMPLE: u32 = 256 * 256 * 511;
 
-fn text(s: &[u8]) {
-    io::write_all(STDOUT_FILENO, s);
+fn text(rt: HostRuntime, s: &[u8]) {
+    streams::write_all(&mut rt.stdout(), s);
 }
 
 // A blank, a name, a blank and a number.
-fn field(name: &[u8], value: u32) {
-    text(b" ");
-    text(name);
-    text(b" ");
-    io::print_decimal(STDOUT_FILENO, value as u64);
+fn field(rt: HostRuntime, name: &[u8], value: u32) {
+    text(rt, b" ");
+    text(rt, name);
+    text(rt, b" ");
+    let _ = rt.stdout().print(value);
 }
 
-fn word(value: u32) {
-    io::print_hex(STDOUT_FILENO, value as u64, 8);
+fn word(rt: HostRuntime, value: u32) {
+    let _ = print!(rt; "{value:08x}");
 }
 
-fn show_decoded(value: u32) {
+fn show_decoded(rt: HostRuntime, value: u32) {
     let d = instructions::decode(value);
-    word(value);
-    field(b"answer", d.answer);
-    field(b"op", d.op);
-    field(b"a", d.a);
-    field(b"b", d.b);
-    field(b"low", d.low);
-    text(b"\n");
+    word(rt, value);
+    field(rt, b"answer", d.answer);
+    field(rt, b"op", d.op);
+    field(rt, b"a", d.a);
+    field(rt, b"b", d.b);
+    field(rt, b"low", d.low);
+    text(rt, b"\n");
 }
 
-fn show_encoded(op: u32, a: u32, b: u32, low: u32) {
+fn show_encoded(rt: HostRuntime, op: u32, a: u32, b: u32, low: u32) {
     let e = instructions::encode(op, a, b, low);
-    text(b"encode");
-    field(b"op", op);
-    field(b"a", a);
-    field(b"b", b);
-    field(b"low", low);
-    field(b"answer", e.answer);
-    text(b" word ");
-    word(e.word);
-    text(b"\n");
+    text(rt, b"encode");
+    field(rt, b"op", op);
+    field(rt, b"a", a);
+    field(rt, b"b", b);
+    field(rt, b"low", low);
+    field(rt, b"answer", e.answer);
+    text(rt, b" word ");
+    word(rt, e.word);
+    text(rt, b"\n");
 }
 
 // Decodes a word and encodes its fields again.
-fn show_again(value: u32) {
+fn show_again(rt: HostRuntime, value: u32) {
     let d = instructions::decode(value);
     let e = instructions::encode(d.op, d.a, d.b, d.low);
-    word(value);
-    text(b" again ");
-    word(e.word);
-    text(b"\n");
+    word(rt, value);
+    text(rt, b" again ");
+    word(rt, e.word);
+    text(rt, b"\n");
 }
 
 // The sample's low parts, 511 of them: 0 to 255, and 256, 512, .. to 65,280, so that every bit is met.
@@ -115,46 +114,46 @@ fn table_allows(lows: u32) -> u32
     count
 }
 
-fn show_lines() {
-    show_decoded(0x01200007);
-    show_decoded(0x00000007);
-    show_decoded(0x0C10FFFF);
-    show_decoded(0x0C107FFF);
-    show_decoded(0x0C108000);
-    show_decoded(0x0D000000);
-    show_decoded(0x0D000001);
-    show_decoded(0x0E000000);
-    show_decoded(0xFFFFFFFF);
-    show_decoded(0x03120003);
-    show_decoded(0x03120013);
+fn show_lines(rt: HostRuntime) {
+    show_decoded(rt, 0x01200007);
+    show_decoded(rt, 0x00000007);
+    show_decoded(rt, 0x0C10FFFF);
+    show_decoded(rt, 0x0C107FFF);
+    show_decoded(rt, 0x0C108000);
+    show_decoded(rt, 0x0D000000);
+    show_decoded(rt, 0x0D000001);
+    show_decoded(rt, 0x0E000000);
+    show_decoded(rt, 0xFFFFFFFF);
+    show_decoded(rt, 0x03120003);
+    show_decoded(rt, 0x03120013);
 }
 
-fn show_encodings() {
-    show_encoded(1, 2, 0, 7);
-    show_encoded(3, 1, 2, 3);
-    show_encoded(13, 0, 0, 0);
+fn show_encodings(rt: HostRuntime) {
+    show_encoded(rt, 1, 2, 0, 7);
+    show_encoded(rt, 3, 1, 2, 3);
+    show_encoded(rt, 13, 0, 0, 0);
     // opcode above 13, fields out of range, unused fields not 0
-    show_encoded(14, 0, 0, 0);
-    show_encoded(1, 16, 0, 7);
-    show_encoded(2, 1, 16, 0);
-    show_encoded(3, 1, 2, 16);
-    show_encoded(12, 1, 0, 65536);
-    show_encoded(0, 0, 0, 7);
-    show_encoded(1, 2, 1, 7);
-    show_encoded(4294967295, 4294967295, 4294967295, 4294967295);
+    show_encoded(rt, 14, 0, 0, 0);
+    show_encoded(rt, 1, 16, 0, 7);
+    show_encoded(rt, 2, 1, 16, 0);
+    show_encoded(rt, 3, 1, 2, 16);
+    show_encoded(rt, 12, 1, 0, 65536);
+    show_encoded(rt, 0, 0, 0, 7);
+    show_encoded(rt, 1, 2, 1, 7);
+    show_encoded(rt, 4294967295, 4294967295, 4294967295, 4294967295);
 }
 
-fn main() {
-    show_lines();
-    show_encodings();
-    show_again(0x0C108000);
-    show_again(0x09120000);
-    text(b"sample");
-    field(b"words", SAMPLE);
-    field(b"decode", sample_that_decodes());
-    field(b"table", table_allows(511));
-    text(b"\n");
-    text(b"all");
-    field(b"table", table_allows(65536));
-    text(b"\n");
+fn main(rt: HostRuntime) {
+    show_lines(rt);
+    show_encodings(rt);
+    show_again(rt, 0x0C108000);
+    show_again(rt, 0x09120000);
+    text(rt, b"sample");
+    field(rt, b"words", SAMPLE);
+    field(rt, b"decode", sample_that_decodes());
+    field(rt, b"table", table_allows(511));
+    text(rt, b"\n");
+    text(rt, b"all");
+    field(rt, b"table", table_allows(65536));
+    text(rt, b"\n");
 }
