@@ -18,7 +18,7 @@ build_at() { # SHIFT
     make_folder bench
     {
         printf 'SECTIONS {\n  .placed : {\n'
-        "${compiler%gcc}objdump" -h "$library" | awk -v shift="$1" '
+        objdump -h "$library" | awk -v shift="$1" '
             $2 ~ /^\.text\./ && !seen[$2]++ { printf "    . = ALIGN(4096) + %d; *(%s)\n", shift, $2 }'
         printf '    . = ALIGN(4096);\n  }\n} INSERT AFTER .text;\n'
     } >"$script" || missing "the places of the library's functions could not be written to $script" "look at the room and the rights there"
@@ -78,9 +78,9 @@ night_row() { # ROUNDS
     printf '%s\n' "$room"/night/*.img >"$room/list"
     options=''
     build night "$root/bench/night.c" "$root/bench/sheet.c" "$root/bench/sheet_images.c" "$root/bench/sheet_counts.c"
-    c=$(night_ms C "$1" ${emulator:+"$emulator"} "$program")
+    c=$(night_ms C "$1" "$program")
     find_program card_sheet
-    ours=$(night_ms ours "$1" ${emulator:+"$emulator"} "$program")
+    ours=$(night_ms ours "$1" "$program")
     cmp "$room/C" "$room/ours" >&2 || missing "the sheet and the plain C differ" "bench/night.c is the plain C"
     awk -v c="$c" -v ours="$ours" 'BEGIN { printf "%-30s %12d %10.2f %10.2f %8.2f  (outside the ratio)\n", "a sheet of 1,000 images", 1000000, c, ours, c / ours }'
 }
@@ -92,18 +92,15 @@ with_night() { # TABLES
 
 find_tools
 find_library
-if [ -n "$emulator" ]; then
-    say "running under the kit's emulator: the times compare the two sides here, and say little of a real x86-64"
-fi
 case ${PLACE-} in
 linker)
     build_bench bench
-    print_from ${emulator:+"$emulator"} "$program" "$@"
+    print_from "$program" "$@"
     finish 0
     ;;
 0 | 16 | 32 | 48)
     build_at "$PLACE"
-    print_from ${emulator:+"$emulator"} "$program" "$@"
+    print_from "$program" "$@"
     finish 0
     ;;
 '') ;;
@@ -114,7 +111,7 @@ tables=()
 for shift in 0 16 32 48; do
     build_at "$shift"
     say "functions $shift bytes behind the start of a page"
-    ${emulator:+"$emulator"} "$program" "${1-50}" "${2-11}" >"$room/at_$shift" || missing "the bench failed" "its lines above say why"
+    "$program" "${1-50}" "${2-11}" >"$room/at_$shift" || missing "the bench failed" "its lines above say why"
     tables+=("$room/at_$shift")
 done
 night_row "${2-11}" >"$room/row"

@@ -1,5 +1,5 @@
-# Finds what a C program over the verified library needs: the library, a compiler for x86-64 and, on another processor, the kit's
-# emulator; compiles it. Sourced by bench/run.sh, compare/run.sh, interop/run.sh and edges/run.sh, which set `root` and `me`.
+# Finds what a C program over the verified library needs, the library and a compiler, and compiles it.
+# Sourced by bench/run.sh, compare/run.sh, interop/run.sh and edges/run.sh, which set `root` and `me`.
 # shellcheck shell=bash disable=SC2154
 # shellcheck source=scripts/ends.sh
 . "$root/scripts/ends.sh"
@@ -8,23 +8,12 @@
 # shellcheck source=scripts/making.sh
 . "$root/scripts/making.sh"
 
-# Sets `compiler`, `options` and `link` (its words for compiling and for linking) and `emulator` (empty on x86-64).
+# Sets `compiler` and `options`, more words for it.
 find_tools() {
-    compiler='gcc' options='' link='' emulator=''
-    if [ "$(uname -m)" = x86_64 ]; then
-        command -v "$compiler" >/dev/null ||
-            missing "the C compiler gcc was not found" "on Debian: apt-get install gcc libc6-dev"
-        return
-    fi
-    compiler='x86_64-linux-gnu-gcc' link='-static'
-    command -v "$compiler" >/dev/null ||
-        missing "the library links only into x86-64 programs, this is another processor, and $compiler was not found" \
-            "get the cross compiler; on Debian: apt-get update && apt-get install gcc-x86-64-linux-gnu"
-    find_kit
-    emulator=$kit/on/$(uname -m)/toolchain/bin/qemu-x86_64
-    [ -x "$emulator" ] ||
-        missing "x86-64 programs need the kit's emulator on this processor, and $emulator is not there" \
-            "use a kit that has a folder on/$(uname -m); 'card version' names the one in use"
+    compiler='gcc' options=''
+    [ "$(uname -m)" = x86_64 ] ||
+        missing "the library links only into x86-64 programs, and this is another processor" "use an x86-64, as the kit does"
+    command -v "$compiler" >/dev/null || missing "the C compiler gcc was not found" "on Debian: apt-get install gcc libc6-dev"
 }
 
 make_folder() { # NAME
@@ -37,10 +26,10 @@ build() { # NAME FILES
     make_folder "$1"
     say "compiling $1 with $compiler -O3"
     # shellcheck disable=SC2086
-    if ! { "$compiler" -O3 -std=c11 -Wall -Wextra $options $link -I "$root/include" -I "$root/bench" \
+    if ! { "$compiler" -O3 -std=c11 -Wall -Wextra $options -I "$root/include" -I "$root/bench" \
         -o "$program.$$" "${@:2}" "$library" && mv -f "$program.$$" "$program"; }; then
         rm -f "$program.$$"
         missing "$compiler could not compile or link $1: its lines above say why" \
-            "if the C library is missing, on Debian: apt-get install libc6-dev (or libc6-dev-amd64-cross)"
+            "if the C library is missing, on Debian: apt-get install libc6-dev"
     fi
 }

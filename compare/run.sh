@@ -15,7 +15,7 @@ try_example() {
     for folder in "$root"/crates/card_run*/; do
         name=$(basename "$folder") words=()
         case $name in *strict*) words=(--strict) ;; esac
-        ${emulator:+"$emulator"} "$program" "${words[@]}" <"$folder/stdin" >"$wrote.$$" || [ $? -lt 4 ] ||
+        "$program" "${words[@]}" <"$folder/stdin" >"$wrote.$$" || [ $? -lt 4 ] ||
             missing "examples/host.c failed on crates/$name/stdin" "its line above says why"
         if ! cmp -s "$wrote.$$" "$folder/stdout"; then
             mv -f "$wrote.$$" "$wrote"
@@ -56,11 +56,11 @@ try_night() {
     for folder in "$root"/crates/card_sheet*/; do
         name=$(basename "$folder") words=()
         case $name in *strict*) words=(--strict) ;; esac
-        (cd "$folder/data" && ${emulator:+"$emulator"} "$night" "${words[@]}" <"$folder/stdin") >"$room/stored" ||
+        (cd "$folder/data" && "$night" "${words[@]}" <"$folder/stdin") >"$room/stored" ||
             missing "bench/night.c failed on crates/$name/stdin" "its line above says why"
         find_program "$name"
-        ${emulator:+"$emulator"} "$night" "${words[@]}" <"$room/list" >"$room/C" || missing "bench/night.c failed" "its line above says why"
-        ${emulator:+"$emulator"} "$program" <"$room/list" >"$room/ours" 2>/dev/null || missing "$name failed" "run it by itself"
+        "$night" "${words[@]}" <"$room/list" >"$room/C" || missing "bench/night.c failed" "its line above says why"
+        "$program" <"$room/list" >"$room/ours" 2>/dev/null || missing "$name failed" "run it by itself"
         if ! { cmp "$room/stored" "$folder/stdout" && cmp "$room/C" "$room/ours"; } >&2; then
             say "$name and bench/night.c differ"
             finish 1
@@ -78,6 +78,6 @@ build compare "$root"/compare/*.c "$root/bench/sheet.c" "$root/bench/sheet_image
     "$root/bench/sheet_export.c" "$root/bench/sheet_import.c" \
     "$root/bench/sheet_why.c"
 ended=0
-print_from ${emulator:+"$emulator"} "$program" "$@" || ended=$?
+print_from "$program" "$@" || ended=$?
 [ "$ended" -le 1 ] || missing "the host test ended with $ended" "its line above, if any, says why"
 finish "$ended"

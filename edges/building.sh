@@ -1,23 +1,26 @@
 # Checks of building, in a copy of the repository that has what is proved already: two at once, what cannot be built, the kit.
 # shellcheck shell=bash disable=SC2016,SC2154
 
-# Sets `card` to that of a fresh copy, in which the run program is still to be made: its source has a remark more.
+# Sets `card` to that of a fresh copy without what rt made, in which the run program is still to be made: its source has a remark more.
 copy_repository() {
-    local copy=$room/copy part
+    local copy=$room/copy
     rm -rf "$copy"
     mkdir -p "$copy/target"
-    for part in card scripts crates crates.txt kit.pin samples; do cp -R "$root/$part" "$copy/"; done
+    tar -C "$root" --exclude=out -cf - card scripts crates crates.txt kit.pin samples | tar -C "$copy" -xf -
     echo "// a copy for a check" >>"$copy/crates/card_run/src/main.rt"
     chmod -R go+rX "$copy"
     card=$copy/card
 }
 
-# The same with what is proved already, so that the run program alone is to be proved.
+# The same with the libraries that are proved already, so that the run program alone is to be proved.
 copy_proofs() {
+    local crate
     copy_repository
-    cp -R "$root/target/rlib" "$root/target/stamp" "$room/copy/target/"
-    rm -f "$room/copy/target/stamp/card_run"
-    chmod -R go+rX "$room/copy/target"
+    for crate in $(crates_below card_run); do
+        [ -d "$root/crates/$crate/out/rlib" ] || continue
+        mkdir "$room/copy/crates/$crate/out"
+        cp -R "$root/crates/$crate/out/rlib" "$room/copy/crates/$crate/out/"
+    done
 }
 
 # How many lines of FILE have TEXT.
@@ -51,7 +54,7 @@ progress_shown() {
     local all
     command -v script >/dev/null || skip "the command script, which makes a terminal, is not here"
     copy_proofs
-    all=$(crates_below card_run)
+    all=$(crates_below card_run | wc -l)
     attempt script -qec "'$card' run '$room/eleven.img'" /dev/null
     case $out in *"proving $all of $all: card_run"*) ;; *) wrong "it wrote: $out" ;; esac
     case $out in *logic=proved*) wrong "the prover's log is shown" ;; esac
@@ -65,16 +68,17 @@ not_proved() {
     cp "$root/target/ready/card_run.kit" "$room/copy/target/ready/"
     sed -i 's/run_input(false)/run_input(0)/' "$room/copy/crates/card_run/src/main.rt"
     attempt "$card" run "$room/eleven.img"
-    could_not "NOT PROVED"
+    could_not "'rt run' in crates/card_run ended with 1: "
     says "its log is $room/copy/target/ready/card_run.log"
     grep -q error "$room/copy/target/ready/card_run.log" || wrong "the log does not have the error"
 }
 
-# rt fails as it should where it cannot write.
-target_full() {
-    copy_repository
-    mount -t tmpfs -o size=64k none "$room/copy/target" 2>/dev/null || skip "no small disk can be mounted here, which needs root"
-    trap 'umount "$room/copy/target"' EXIT
+# rt fails as it should where it cannot write, and what it made is not half there where it cannot be kept.
+folder_full() { # FOLDER
+    copy_proofs
+    mkdir -p "$room/copy/$1"
+    mount -t tmpfs -o size=64k none "$room/copy/$1" 2>/dev/null || skip "no small disk can be mounted here, which needs root"
+    trap 'umount "$room/copy/$1"' EXIT
     attempt "$card" run "$room/eleven.img"
     ends_with 4
     writes ''
@@ -122,22 +126,23 @@ gate_status() { # OF-RT STATUS
     ends_with "$2"
 }
 
-# A clone in which all is proved from nothing gives the same bytes of the run program and of the archive.
+# A clone, in which nothing is made, gives the same bytes of the run program and of the archive.
 clone_gives_the_same() {
-    [ "$clone" = yes ] || skip "from nothing it takes some minutes; card edges --clone makes it"
+    [ "$clone" = yes ] || skip "it may take some minutes; card edges --clone makes it"
     [ -z "$(git -C "$root" status --porcelain crates crates.txt 2>&1)" ] || skip "the crates here are not those of the last commit"
     git clone -q "$root" "$room/clone"
-    (cd "$room/clone" && rt check card_run && rt staticlib host) >"$room/clone.log" 2>&1 ||
+    (cd "$room/clone/crates/card_run" && rt run && cd ../host_c && rt lib) >"$room/clone.log" 2>&1 </dev/null ||
         wrong "the clone is not proved: $(tail -n 1 "$room/clone.log")"
-    cmp "$room/clone/target/bin/card_run" "$root/target/ready/card_run" || wrong "the programs differ"
-    cmp "$room/clone/target/staticlib/libhost.a" "$root/target/ready/libhost.a" || wrong "the archives differ"
+    cmp "$room/clone/crates/card_run/out/card_run" "$root/target/ready/card_run" || wrong "the programs differ"
+    cmp "$room/clone/crates/host_c/out/libhost_c.a" "$root/target/ready/libhost.a" || wrong "the archives differ"
 }
 
 building_checks() {
     check two_at_once -- "two runs at once where the program must be built first"
     check progress_shown -- "a line of progress a crate on a terminal"
     check not_proved -- "a program that is not proved"
-    check target_full -- "no room in target/"
+    check folder_full target -- "no room in target/"
+    check folder_full crates/card_run/out -- "no room for what rt makes"
     check target_without_right -- "no right to write to target/"
     check ready_without_right -- "no right to write to target/, and nothing to build"
     check no_kit -- "no kit"

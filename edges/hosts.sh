@@ -6,11 +6,9 @@ example=$root/examples/host.c
 # Compiles the example with no warning, and runs it: it prints what the run program must print.
 compiles() { # COMPILER WORDS...
     command -v "$1" >/dev/null || skip "$1 is not here"
-    # shellcheck disable=SC2086
     "${@}" -Wall -Wextra -Wpedantic -Wconversion -Werror -I "$root/include" -c -o "$room/host.o" "$example" || wrong "it does not compile"
-    # shellcheck disable=SC2086
-    "$1" $link -o "$room/host" "$room/host.o" "$library" || wrong "it does not link"
-    ${emulator:+"$emulator"} "$room/host" <"$root/crates/card_run_two/stdin" >"$room/host.out" || true
+    "$1" -o "$room/host" "$room/host.o" "$library" || wrong "it does not link"
+    "$room/host" <"$root/crates/card_run_two/stdin" >"$room/host.out" || true
     cmp "$room/host.out" "$root/crates/card_run_two/stdout" || wrong "it printed something else"
 }
 
@@ -30,9 +28,9 @@ make_turns() {
 # what is printed without them.
 rows_shown() {
     local plain shown
-    attempt ${emulator:+"$emulator"} "$root/target/host/host" <"$room/turns.img"
+    attempt "$root/target/host/host" <"$room/turns.img"
     plain=$out
-    attempt ${emulator:+"$emulator"} "$root/target/host/host" --rows <"$room/turns.img"
+    attempt "$root/target/host/host" --rows <"$room/turns.img"
     ends_with 1
     shown=$(awk '/^steps / { steps = $2; getline; print steps ": " $0 }' "$room/out" | paste -sd , -)
     [ "$shown" = '100: 0 87 3 0,200: 0 73 3 0,300: 0 59 3 0,400: 0 44 3 0' ] || wrong "it showed main's row as $shown"
@@ -41,7 +39,6 @@ rows_shown() {
 
 sanitized() {
     local folder words
-    [ -z "$emulator" ] || skip "the sanitizers do not run in the emulator"
     "$compiler" -g -std=c11 -fsanitize=address,undefined -fno-sanitize-recover=all -I "$root/include" -o "$room/host" "$example" \
         "$library" 2>/dev/null || skip "the compiler has no sanitizers"
     for folder in "$root"/crates/card_run*/; do
@@ -57,7 +54,7 @@ sanitized() {
 
 # The example's own statuses, as those of the run program.
 example_status() { # FILE STATUS
-    attempt ${emulator:+"$emulator"} "$root/target/host/host" <"$1"
+    attempt "$root/target/host/host" <"$1"
     ends_with "$2"
 }
 
@@ -69,7 +66,7 @@ layout_asserted() {
 
 needs_of_archive() {
     local needs
-    needs=$("${compiler%gcc}nm" -u "$library" | awk 'NF == 2 { print $2 }' | sort | tr '\n' ' ')
+    needs=$(nm -u "$library" | awk 'NF == 2 { print $2 }' | sort | tr '\n' ' ')
     [ "$needs" = 'memcpy memset ' ] || wrong "the archive needs: $needs"
 }
 
@@ -106,7 +103,7 @@ host_checks() {
         check compiles "$compiler" "-std=$language" -- "examples/host.c as $language, with no warning"
     done
     for language in c++11 c++17 c++20; do
-        check compiles "${compiler%gcc}g++" -x c++ "-std=$language" -- "examples/host.c as $language, with no warning"
+        check compiles g++ -x c++ "-std=$language" -- "examples/host.c as $language, with no warning"
     done
     check sanitized -- "examples/host.c with the sanitizers for addresses and undefined behaviour"
     check example_status "$room/halt.img" 0 -- "examples/host.c: halted is status 0"

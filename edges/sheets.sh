@@ -131,7 +131,6 @@ readme_sheet() {
 
 sheet_program_could_not() { # LINE
     find_program card_sheet
-    find_launch
     program_could_not "$1"
 }
 

@@ -80,13 +80,13 @@ no_errors() { # LINE
 
 # The run program by itself, as a host starts it. Its own status is 0 always, and its last line on standard error tells how it ended.
 program_status() { # FILE STATUS
-    attempt "${launch[@]}" "$program" <"$1"
+    attempt "$program" <"$1"
     ends_with 0
     [ "$err" = "status $2" ] || wrong "it says: $err"
 }
 
 program_could_not() { # LINE
-    attempt sh -c "shift; exec \"\$@\" $1" sh - "${launch[@]}" "$program"
+    attempt sh -c "shift; exec \"\$@\" $1" sh - "$program"
     ends_with 0
     case $err in
     [a-z]*$'\n''status 4') ;;
@@ -120,7 +120,6 @@ write_checks() {
 
 program_checks() {
     find_program card_run
-    find_launch
     check program_status "$room/halt.img" 0 -- "the run program: halted is told as status 0"
     check program_status "$room/eleven.img" 1 -- "the run program: stopped is told as status 1"
     check program_status /dev/null 2 -- "the run program: refused is told as status 2"

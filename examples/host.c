@@ -1,7 +1,7 @@
 /* A host of the library, in C or in C++: checks the image on standard input, lends memories of its N places and a table of rows, loads
    and runs it, in strict mode where it is called with --strict, and prints what the run program prints. With --rows it shows the rows
    after every hundred steps, too. It ends as the run program does: 0 halted, 1 stopped, 2 refused, 3 budget used, 4 it could not be done.
-   cc -I include -o host examples/host.c target/staticlib/libhost.a */
+   cc -I include -o host examples/host.c target/ready/libhost.a */
 #include "kldemuvash.h"
 
 #include <stdio.h>

@@ -1,4 +1,5 @@
-/* The C interface of the verified library (target/staticlib/libhost.a, made by `rt staticlib host`).
+/* The C interface of the verified library: target/ready/libhost.a, which `card compare` and `card bench` make. `rt lib` in crates/host_c
+   makes the same archive as crates/host_c/out/libhost_c.a.
 
    A host keeps one kl_processor, five memories and a table of rows, and lends them to each call:
      words    one 32-bit word per place
@@ -40,7 +41,7 @@
    The archive needs memcpy and memset of the C library, and nothing else. kl_assemble uses about 100 KB of the
    stack, kl_import about 25 KB, every other call less than 8 KB.
 
-   On x86-64 Linux; usable from C (C99 on) and C++ (C++11 on). examples/host.c is a host. */
+   On x86-64 Linux, on a processor of x86-64-v2 or above; usable from C (C99 on) and C++ (C++11 on). examples/host.c is a host. */
 #ifndef KLDEMUVASH_H
 #define KLDEMUVASH_H
 

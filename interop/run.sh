@@ -45,9 +45,9 @@ find_library
 build interop "$root/interop/interop.c"
 find_room
 say "seed $seed, $count images"
-${emulator:+"$emulator"} "$program" make "$seed" "$count" "$room" || missing "the images could not be made" "its line above says why"
+"$program" make "$seed" "$count" "$room" || missing "the images could not be made" "its line above says why"
 for ((i = 0; i < count; i++)); do use_tools "$i"; done
 ended=0
-print_from ${emulator:+"$emulator"} "$program" check "$count" "$room" || ended=$?
+print_from "$program" check "$count" "$room" || ended=$?
 [ "$ended" -le 1 ] || missing "the comparison ended with $ended" "its line above says why"
 finish "$ended"

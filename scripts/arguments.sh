@@ -27,7 +27,7 @@ takes_crates() { # COMMAND WORDS...
     shift
     for word in "$@"; do
         case $word in *[!A-Za-z0-9_]* | '') missing "$command takes names of crates, and '$word' is none" "crates.txt lists them" ;; esac
-        grep -q "^$word:" "$root/crates.txt" || missing "$command: there is no crate $word" "crates.txt lists them"
+        grep -q "^$word\( [^:]*\)\{0,1\}:" "$root/crates.txt" || missing "$command: there is no crate $word" "crates.txt lists them"
     done
 }
 

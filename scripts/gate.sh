@@ -20,23 +20,19 @@ run_gate() {
     finish_as_rt "$ended"
 }
 
-# A copy of the crates in target/edits, in which the edits of more-edits/NAME are the must-fail edits of crate NAME. What is proved is not
-# proved again.
+# A copy of the crates in ROOM, in which the edits of more-edits/NAME are the must-fail edits of crate NAME. It stands outside the
+# repository, where `rt ci` would refuse its files, and has nothing that rt made: rt begins there with what it keeps of the same files.
 copy_for_edits() {
-    local copy=$root/target/edits folder
-    rm -rf "$copy"
-    mkdir -p "$copy/target"
-    cp -R "$root/crates" "$root/crates.txt" "$copy/"
-    for folder in rlib stamp; do [ ! -d "$root/target/$folder" ] || cp -R "$root/target/$folder" "$copy/target/"; done
-    rm -rf "$copy"/crates/*/must-fail
-    for folder in "$root"/more-edits/*/; do
-        cp -R "$folder" "$copy/crates/$(basename "$folder")/must-fail"
-    done
+    local folder
+    tar -C "$root" --exclude=out --exclude=must-fail -cf - crates crates.txt | tar -C "$room" -xf - &&
+        for folder in "$root"/more-edits/*/; do
+            cp -R "$folder" "$room/crates/$(basename "$folder")/must-fail" || return
+        done
 }
 
 # Tries them, with rt's own lines shown and what the prover says besides in the log alone; ends as rt does.
 show_verdicts() { # [CRATE...]
-    rt must-fail "$@" 2>&1 </dev/null | tee log | grep --line-buffered '^rt: ' || return "${PIPESTATUS[0]}"
+    rt must-fail "$@" 2>&1 </dev/null | tee "$root/target/edits.log" | grep --line-buffered '^rt: ' || return "${PIPESTATUS[0]}"
 }
 
 try_edits() { # [CRATE...]
@@ -45,9 +41,12 @@ try_edits() { # [CRATE...]
     need_output
     find_kit
     lock
-    copy_for_edits || missing "target/edits could not be written" "look at the rights and the room in $root/target"
-    say "trying the edits under more-edits/, each against its whole crate; all of them take some minutes; the log is target/edits/log"
-    cd "$root/target/edits"
+    find_room
+    copy_for_edits || missing "a copy of the crates could not be written to $room" "look at the rights and the room there; TMPDIR names another place"
+    mkdir -p "$root/target" && : >"$root/target/edits.log" ||
+        missing "target/edits.log could not be written" "look at the rights and the room in $root/target"
+    say "trying the edits under more-edits/, each against its whole crate; all of them take some minutes; the log is target/edits.log"
+    cd "$room"
     print_from show_verdicts "$@" || ended=$?
     finish_as_rt "$ended"
 }

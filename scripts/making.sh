@@ -1,5 +1,5 @@
 # Proves and compiles what a command needs: one build at a time, with its progress, and its log in a file.
-# What is made stands in target/ready/, put there whole when it is done. `rt ci`, so `card test` too, removes it with all of target/.
+# What is made stands in target/ready/, put there whole when it is done; rt makes it in crates/NAME/out/, and keeps its work there.
 # shellcheck shell=bash disable=SC2034,SC2154
 
 # The lock is on the repository's folder, which no build removes. rt inherits it, so it is held for as long as rt runs.
@@ -18,64 +18,74 @@ unlock() {
     lock_fd=''
 }
 
-# Whether FILE was made by the kit in use and is as new as the crates.
+# Whether FILE was made by the kit in use and is as new as the crates. What rt made is no part of them, and neither is the time at which it
+# made or removed a folder for it.
 is_ready() { # FILE
     [ -f "$1" ] && [ "$(cat "$1.kit" 2>/dev/null)" = "$kit_id" ] &&
-        [ -z "$(find "$root/crates" "$root/crates.txt" -newer "$1" -print -quit)" ]
+        [ -z "$(find "$root/crates.txt" -newer "$1" -print && find "$root/crates" -mindepth 2 -name out -prune -o -newer "$1" -print -quit)" ]
 }
 
-# How many crates of crates.txt CRATE rests on, itself counted.
+# The crates of crates.txt that CRATE rests on, and CRATE last: each after those that it rests on, as rt builds them.
 crates_below() { # CRATE
     CRATE=$1 awk '
         function visit(name,    i, count, names) {
             if (!(name in rests) || (name in seen)) return
             seen[name] = 1
-            total++
             count = split(rests[name], names, " ")
             for (i = 1; i <= count; i++) visit(names[i])
+            print name
         }
         { sub(/#.*/, ""); at = index($0, ":") }
-        at { name = substr($0, 1, at - 1); gsub(/[ \t]/, "", name); rests[name] = substr($0, at + 1) }
-        END { visit(ENVIRON["CRATE"]); print total + 0 }' "$root/crates.txt"
+        at { split(substr($0, 1, at - 1), words, " "); rests[words[1]] = substr($0, at + 1) }
+        END { visit(ENVIRON["CRATE"]) }' "$root/crates.txt"
 }
 
-# A line for each crate that is proved, until it is ended: rt writes target/log/CRATE.res where it comes to a crate, and CRATE.say where it
-# proves it.
-watch_crates() { # TOTAL BEGAN
+# A line for each crate that is proved, until it is ended: rt says in LOG where it begins with one.
+watch_crates() { # CRATE LOG
     local -A place=() told=()
-    local file crate
+    local crate all=0
+    for crate in $(crates_below "$1"); do
+        all=$((all + 1))
+        place[$crate]=$all
+    done
     while kill -0 $$ 2>/dev/null; do
-        for file in $(find "$root/target/log" -name '*.[rs][ea][sy]' -newer "$2" -printf '%T@ %f\n' 2>/dev/null | sort -n | cut -d ' ' -f 2); do
-            crate=${file%.*}
-            [ -n "${place[$crate]-}" ] || place[$crate]=$((${#place[@]} + 1))
-            if [ "$file" = "$crate.say" ] && [ -z "${told[$crate]-}" ]; then
-                told[$crate]=yes
-                say "proving ${place[$crate]} of $1: $crate"
-            fi
+        for crate in $(sed -n 's/^rt: chose --jobs [0-9]* for \([A-Za-z0-9_]*\)$/\1/p' "$2"); do
+            [ -z "${told[$crate]-}" ] || continue
+            told[$crate]=yes
+            say "proving ${place[$crate]-?} of $all: $crate"
         done
         sleep 0.2
     done
 }
 
-# Runs `rt VERB CRATE` with its log in a file, and with a line of progress a crate where standard error is a terminal.
-prove() { # VERB CRATE LOG BEGAN
+# Whether rt did what it was to do, by its log: `rt run` ends as the program does that it made, and says before that it starts it.
+was_made() { # VERB CRATE LOG STATUS
+    case $1 in
+    run) grep -q "^rt: running out/$2; " "$3" ;;
+    *) [ "$4" -eq 0 ] ;;
+    esac
+}
+
+# Runs `rt VERB` in the folder of CRATE with its log in a file, and with a line of progress a crate where standard error is a terminal.
+prove() { # VERB CRATE LOG
     local ended=0
     if [ -t 2 ]; then
-        say "proving and compiling $2 with 'rt $1 $2'; from nothing this takes some minutes"
-        watch_crates "$(crates_below "$2")" "$4" {lock_fd}<&- &
+        say "proving and compiling $2 with 'rt $1' in crates/$2; from nothing this takes some minutes"
+        watch_crates "$2" "$3" {lock_fd}<&- &
         watcher=$!
     else
-        say "proving and compiling $2 with 'rt $1 $2', some minutes from nothing; its log is ${3#"$root"/}"
+        say "proving and compiling $2 with 'rt $1' in crates/$2, some minutes from nothing; its log is ${3#"$root"/}"
     fi
-    (cd "$root" && rt "$1" "$2") </dev/null >"$3" 2>&1 || ended=$?
+    (cd "$root/crates/$2" && rt "$1") </dev/null >"$3" 2>&1 || ended=$?
     if [ -n "$watcher" ]; then
         kill "$watcher" && { wait "$watcher" || true; } 2>/dev/null
         watcher=''
     fi
-    [ "$ended" -eq 0 ] || missing "'rt $1 $2' ended with $ended: $(grep -m 1 'NOT PROVED\|FAILED' "$3" || echo "not proved")" "its log is $3"
+    was_made "$1" "$2" "$3" "$ended" ||
+        missing "'rt $1' in crates/$2 ended with $ended: $(grep -m 1 'error\|: not proved$\|: no proof' "$3" || echo "not proved")" "its log is $3"
 }
 
-# Sets `made` to target/ready/NAME, a copy of target/FROM that `rt VERB CRATE` proved and compiled; makes it where it is not there.
+# Sets `made` to target/ready/NAME, a copy of what `rt VERB` proved and compiled as out/FROM of CRATE; makes it where it is not there.
 make_ready() { # NAME FROM VERB CRATE
     find_kit
     made=$root/target/ready/$1
@@ -85,8 +95,8 @@ make_ready() { # NAME FROM VERB CRATE
         if ! { mkdir -p "$root/target/ready" && rm -f "$made" && : >"$made.began" && : >"$made.log"; }; then
             missing "target/ready could not be written" "look at the rights and the room in $root/target"
         fi
-        prove "$3" "$4" "$made.log" "$made.began"
-        if ! { cp "$root/target/$2" "$made.new" && touch -r "$made.began" "$made.new" &&
+        prove "$3" "$4" "$made.log"
+        if ! { cp "$root/crates/$4/out/$2" "$made.new" && touch -r "$made.began" "$made.new" &&
             printf '%s\n' "$kit_id" >"$made.kit" && mv -f "$made.new" "$made"; }; then
             missing "target/ready/$1 could not be written" "look at the room on its disk"
         fi
@@ -94,14 +104,14 @@ make_ready() { # NAME FROM VERB CRATE
     unlock
 }
 
-# Sets `program` to program NAME.
+# Sets `program` to program NAME. `rt run` makes it, and starts it once on no input.
 find_program() { # NAME
-    make_ready "$1" "bin/$1" check "$1"
+    make_ready "$1" "$1" run "$1"
     program=$made
 }
 
-# Sets `library` to the archive for C.
+# Sets `library` to the archive for C, which is that of crate host_c.
 find_library() {
-    make_ready libhost.a staticlib/libhost.a staticlib host
+    make_ready libhost.a libhost_c.a lib host_c
     library=$made
 }

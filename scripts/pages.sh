@@ -27,7 +27,7 @@ reference_names() {
                     if (sub(/^.*: /, "", module)) name = module
                     module = $i; sub(/^[^\/]*\//, "", module); sub(/:.*/, "", module); sub(/\/.*/, "", crate)
                     print crate, module, name
-                } else if (crate != "" && $i ~ /^[A-Za-z-]+$/) print crate, module, $i
+                } else if (crate != "" && $i ~ /^[A-Za-z_-]+$/) print crate, module, $i
         }' "$root/docs/REFERENCE.md" |
         while read -r crate module name; do
             path=$(cd "$root" && find "crates/$crate/specs" -name "$module.antt")
@@ -70,16 +70,14 @@ check_requires() {
         END { printf "claims: %d public functions, %d with a requires\n", count, bad; exit bad > 0 }'
 }
 
-# A row for each crate of crates.txt, and their sum. Laws are the public statements outside records. The seconds are those of the
-# last proof that rt made, '-' where its last check found the crate unchanged.
+# A row for each crate of crates.txt, and their sum. Laws are the public statements outside records.
 figures() {
-    local crate took
+    local crate
     cd "$root"
-    printf '| crate | lines of source | definitions | laws | lines of both | proofs by hand | lines of these | must-fail edits | check, s |\n'
-    printf '|---|---|---|---|---|---|---|---|---|\n'
-    sed -n 's/^\([A-Za-z0-9_]*\):.*/\1/p' crates.txt | while IFS= read -r crate; do
-        took=$(sed -n 's/^rt: .* proved (\([0-9]*\) s)$/\1/p' "target/log/$crate.out" 2>/dev/null) || true
-        find "crates/$crate" -type f \( -name '*.rt' -o -name '*.antt' -o -name '*.edit' \) -exec awk '
+    printf '| crate | lines of source | definitions | laws | lines of both | proofs by hand | lines of these | must-fail edits |\n'
+    printf '|---|---|---|---|---|---|---|---|\n'
+    sed -n 's/^\([A-Za-z0-9_]*\)\( [^:]*\)\{0,1\}:.*/\1/p' crates.txt | while IFS= read -r crate; do
+        find "crates/$crate" -name out -prune -o -type f \( -name '*.rt' -o -name '*.antt' -o -name '*.edit' \) -exec awk '
             { folder = FILENAME; sub(/^crates\/[^\/]*\//, "", folder); sub(/\/.*/, "", folder) }
             FNR == 1 { files[folder]++; fields = 0 }
             { lines[folder]++ }
@@ -94,10 +92,10 @@ figures() {
                 print lines["src"] + 0, definitions + 0, laws + 0, lines["specs"] + 0, files["proofs"] + 0, lines["proofs"] + 0,
                     files["must-fail"] + 0
             }' {} + |
-            sed "s/^/$crate /; s/\$/ ${took:--}/"
+            sed "s/^/$crate /"
     done | awk '
-        function row(name, values,    i, line) { line = "| " name " |"; for (i = 2; i <= 9; i++) line = line " " values[i] " |"; print line }
-        { for (i = 2; i <= 9; i++) { one[i] = $i; all[i] += $i } row($1, one) }
+        function row(name, values,    i, line) { line = "| " name " |"; for (i = 2; i <= 8; i++) line = line " " values[i] " |"; print line }
+        { for (i = 2; i <= 8; i++) { one[i] = $i; all[i] += $i } row($1, one) }
         END { row("all", all) }'
 }
 

@@ -9,10 +9,9 @@ source_most=262145 # bytes: a source, or a text of Intel HEX, has at most 262,14
 launch_on() { # NAME IN OUT [WORDS...]
     local in=$2 out=$3
     find_program "$1"
-    find_launch
     shift 3
     ended=0
-    "${launch[@]}" "$program" "$@" <"$room/$in" >"$room/$out" 2>"$room/said" || ended=$?
+    "$program" "$@" <"$room/$in" >"$room/$out" 2>"$room/said" || ended=$?
 }
 
 # The program neither did its work nor refused: its own sentence, where it has one, and status 4.

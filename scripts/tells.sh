@@ -36,9 +36,8 @@ stream() { # NAME WORDS...
     local name=$1
     shift
     find_program "$name"
-    find_launch
     ended=0
-    "${launch[@]}" "$program" "$@" <"$room/image" 2>"$room/said" || ended=$?
+    "$program" "$@" <"$room/image" 2>"$room/said" || ended=$?
 }
 
 explain_image() { # [--budget N] [--strict] FILE

@@ -1,5 +1,6 @@
-// The calls of a host program, which keeps one processor record and lends it to each.
+// The calls of a host program, which keeps one processor record and lends it to each. Crate host_c hands each on to C, under its name.
 #![tactic(auto)]
+
 ghost use Rattle.std.specs.Prelude.{◌≡◌, []};
 ghost use Rattle.common.specs.Words.{decode, encode};
 ghost use Rattle.rules.specs.Rows.{lent_load, lent_step, lent_run};
@@ -20,8 +21,7 @@ use rows::Row;
 
 // Loads an image over whatever the record and the table held, for a run in a mode; a refused load leaves the blank record of that mode, and
 // the table as it was.
-#[unsafe(no_mangle)]
-pub extern "C" fn kl_load(
+pub fn kl_load(
     cpu: &mut Processor,
     strict: bool,
     bytes: &[u8],
@@ -42,8 +42,7 @@ pub extern "C" fn kl_load(
 }
 
 // Checks an image, with no memory: what a load into memories of 2,048 places would answer. n is N, or 0 where the image is refused.
-#[unsafe(no_mangle)]
-pub extern "C" fn kl_check(bytes: &[u8], n: &mut u32) -> u32
+pub fn kl_check(bytes: &[u8], n: &mut u32) -> u32
     ensures { checked_by result n.new ≡ check bytes.now }
 {
     let c = reader::check(bytes);
@@ -52,8 +51,7 @@ pub extern "C" fn kl_check(bytes: &[u8], n: &mut u32) -> u32
 }
 
 // One step; the rows move by what the counts move.
-#[unsafe(no_mangle)]
-pub extern "C" fn kl_step(
+pub fn kl_step(
     cpu: &mut Processor,
     words: &mut [u32],
     owners: &mut [u32],
@@ -70,8 +68,7 @@ pub extern "C" fn kl_step(
 }
 
 // Steps until the first nonzero answer or until the budget is used, and moves the rows with each; count is how many answered 0.
-#[unsafe(no_mangle)]
-pub extern "C" fn kl_run(
+pub fn kl_run(
     cpu: &mut Processor,
     words: &mut [u32],
     owners: &mut [u32],
@@ -92,8 +89,7 @@ pub extern "C" fn kl_run(
 
 // Why the next step would answer its number: the answer, and in told the seven numbers of it. The record comes in its parts, each lent or
 // by value; nothing of the state changes.
-#[unsafe(no_mangle)]
-pub extern "C" fn kl_why_of(
+pub fn kl_why_of(
     n: u32,
     regs: &[u32; 16],
     pc: u32,
@@ -127,8 +123,7 @@ pub extern "C" fn kl_why_of(
 }
 
 // Takes a word apart: opcode, field a, field b, low 16 bits.
-#[unsafe(no_mangle)]
-pub extern "C" fn kl_decode(word: u32, fields: &mut [u32; 4]) -> u32
+pub fn kl_decode(word: u32, fields: &mut [u32; 4]) -> u32
     ensures { decoded_by result fields.new ≡ laid_out (decode word) }
 {
     let d = instructions::decode(word);
@@ -137,8 +132,7 @@ pub extern "C" fn kl_decode(word: u32, fields: &mut [u32; 4]) -> u32
 }
 
 // Puts a word together.
-#[unsafe(no_mangle)]
-pub extern "C" fn kl_encode(op: u32, a: u32, b: u32, low: u32, word: &mut u32) -> u32
+pub fn kl_encode(op: u32, a: u32, b: u32, low: u32, word: &mut u32) -> u32
     ensures { encoded_by result word.new ≡ encode op a b low }
 {
     let e = instructions::encode(op, a, b, low);
@@ -147,8 +141,7 @@ pub extern "C" fn kl_encode(op: u32, a: u32, b: u32, low: u32, word: &mut u32) -
 }
 
 // Writes an image to the front of a buffer; length is how many bytes it takes.
-#[unsafe(no_mangle)]
-pub extern "C" fn kl_write(
+pub fn kl_write(
     words: &[u32],
     regs: &[u32; 16],
     entry: u32,
@@ -163,13 +156,7 @@ pub extern "C" fn kl_write(
 }
 
 // Assembles a source to the front of a buffer; line is the line at fault, and length how many bytes the image takes.
-#[unsafe(no_mangle)]
-pub extern "C" fn kl_assemble(
-    text: &[u8],
-    out: &mut [u8],
-    line: &mut u64,
-    length: &mut usize,
-) -> u32
+pub fn kl_assemble(text: &[u8], out: &mut [u8], line: &mut u64, length: &mut usize) -> u32
     ensures { assembled_by result line.new length.new out.new ≡ assemble text.now out.old }
 {
     let a = assembler::assemble(text, out);
@@ -180,8 +167,7 @@ pub extern "C" fn kl_assemble(
 
 // Imports a text of Intel HEX to the front of a buffer, with registers and an entry; line is the record at fault, and length how many
 // bytes the image takes.
-#[unsafe(no_mangle)]
-pub extern "C" fn kl_import(
+pub fn kl_import(
     text: &[u8],
     regs: &[u32; 16],
     entry: u32,
@@ -198,8 +184,7 @@ pub extern "C" fn kl_import(
 }
 
 // Writes a source of words to the front of a buffer; length is how many bytes it takes.
-#[unsafe(no_mangle)]
-pub extern "C" fn kl_disassemble(words: &[u32], out: &mut [u8], length: &mut usize) -> u32
+pub fn kl_disassemble(words: &[u32], out: &mut [u8], length: &mut usize) -> u32
     ensures { written_by result length.new out.new ≡ disassemble words.now out.old }
 {
     let d = disassembler::disassemble(words, out);
@@ -208,8 +193,7 @@ pub extern "C" fn kl_disassemble(words: &[u32], out: &mut [u8], length: &mut usi
 }
 
 // Writes words as a text in the Intel HEX format to the front of a buffer; length is how many bytes it takes.
-#[unsafe(no_mangle)]
-pub extern "C" fn kl_export(words: &[u32], out: &mut [u8], length: &mut usize) -> u32
+pub fn kl_export(words: &[u32], out: &mut [u8], length: &mut usize) -> u32
     ensures { written_by result length.new out.new ≡ export words.now out.old }
 {
     let e = exporter::export(words, out);
@@ -218,32 +202,28 @@ pub extern "C" fn kl_export(words: &[u32], out: &mut [u8], length: &mut usize) -
 }
 
 // The addresses that a compartment owns, services counted.
-#[unsafe(no_mangle)]
-pub extern "C" fn kl_owned(cpu: &Processor, owners: &[u32], number: u32) -> u32
+pub fn kl_owned(cpu: &Processor, owners: &[u32], number: u32) -> u32
     ensures { result ≡ owned_count (state_of cpu.now [] owners.now [] [] []) number }
 {
     report::owned(*cpu, owners, number)
 }
 
 // The addresses that a compartment may jump to, services counted.
-#[unsafe(no_mangle)]
-pub extern "C" fn kl_jumps(cpu: &Processor, jumpers: &[u64], number: u32) -> u32
+pub fn kl_jumps(cpu: &Processor, jumpers: &[u64], number: u32) -> u32
     ensures { result ≡ jump_count (state_of cpu.now [] [] jumpers.now [] []) number }
 {
     report::jumps(*cpu, jumpers, number)
 }
 
 // The addresses that a compartment may store to. No service is among them.
-#[unsafe(no_mangle)]
-pub extern "C" fn kl_stores(cpu: &Processor, writers: &[u64], number: u32) -> u32
+pub fn kl_stores(cpu: &Processor, writers: &[u64], number: u32) -> u32
     ensures { result ≡ store_count (state_of cpu.now [] [] [] writers.now []) number }
 {
     report::stores(*cpu, writers, number)
 }
 
 // The most compartments that may write to any one word below N, its owner counted once.
-#[unsafe(no_mangle)]
-pub extern "C" fn kl_widest(cpu: &Processor, owners: &[u32], writers: &[u64]) -> u32
+pub fn kl_widest(cpu: &Processor, owners: &[u32], writers: &[u64]) -> u32
     ensures { result ≡ widest (state_of cpu.now [] owners.now [] writers.now []) }
 {
     report::widest(*cpu, owners, writers)

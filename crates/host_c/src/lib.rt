@@ -1,0 +1,219 @@
+// The archive for C: each call of crate host under its own name, as include/kldemuvash.h declares it, with its clauses.
+#![tactic(auto)]
+
+ghost use Rattle.std.specs.Prelude.{◌≡◌, []};
+ghost use Rattle.common.specs.Words.{decode, encode};
+ghost use Rattle.rules.specs.Rows.{lent_load, lent_step, lent_run};
+ghost use Rattle.reasons.specs.Why.{why};
+ghost use Rattle.rules.specs.Images.{check, write};
+ghost use Rattle.rules.specs.Counts.{owned_count, jump_count, store_count, widest};
+ghost use Rattle.sources.specs.Meaning.{assemble};
+ghost use Rattle.sources.specs.Listing.{disassemble};
+ghost use Rattle.intel_hex.specs.Exporting.{export};
+ghost use Rattle.intel_hex.specs.Importing.{import};
+ghost use Rattle.rows.specs.Views.{table};
+ghost use Rattle.machine.specs.Views.{state_of};
+ghost use Rattle.loader.specs.Views.{lent};
+ghost use Rattle.host.specs.Views.{loaded_by, checked_by, stepped_by, ran_by, decoded_by, laid_out, told_by, all_told, encoded_by, written_by, assembled_by, imported_by};
+
+use machine::Processor;
+use rows::Row;
+
+// Loads an image over whatever the record and the table held, for a run in a mode; a refused load leaves the blank record of that mode, and
+// the table as it was.
+#[unsafe(no_mangle)]
+pub extern "C" fn kl_load(
+    cpu: &mut Processor,
+    strict: bool,
+    bytes: &[u8],
+    words: &mut [u32],
+    owners: &mut [u32],
+    jumpers: &mut [u64],
+    writers: &mut [u64],
+    readers: &mut [u64],
+    rows: &mut [Row],
+) -> u32
+    ensures { loaded_by cpu.new result words.new owners.new jumpers.new writers.new readers.new rows.new ≡ lent_load strict bytes.now (lent words.old owners.old jumpers.old writers.old readers.old) (table rows.old) }
+{
+    host::kl_load(
+        cpu, strict, bytes, words, owners, jumpers, writers, readers, rows,
+    )
+}
+
+// Checks an image, with no memory: what a load into memories of 2,048 places would answer. n is N, or 0 where the image is refused.
+#[unsafe(no_mangle)]
+pub extern "C" fn kl_check(bytes: &[u8], n: &mut u32) -> u32
+    ensures { checked_by result n.new ≡ check bytes.now }
+{
+    host::kl_check(bytes, n)
+}
+
+// One step; the rows move by what the counts move.
+#[unsafe(no_mangle)]
+pub extern "C" fn kl_step(
+    cpu: &mut Processor,
+    words: &mut [u32],
+    owners: &mut [u32],
+    jumpers: &mut [u64],
+    writers: &mut [u64],
+    readers: &mut [u64],
+    rows: &mut [Row],
+) -> u32
+    ensures { stepped_by cpu.new result words.new owners.new jumpers.new writers.new readers.new rows.new ≡ lent_step (state_of cpu.old words.old owners.old jumpers.old writers.old readers.old) (table rows.old) }
+{
+    host::kl_step(cpu, words, owners, jumpers, writers, readers, rows)
+}
+
+// Steps until the first nonzero answer or until the budget is used, and moves the rows with each; count is how many answered 0.
+#[unsafe(no_mangle)]
+pub extern "C" fn kl_run(
+    cpu: &mut Processor,
+    words: &mut [u32],
+    owners: &mut [u32],
+    jumpers: &mut [u64],
+    writers: &mut [u64],
+    readers: &mut [u64],
+    rows: &mut [Row],
+    budget: u32,
+    count: &mut u32,
+) -> u32
+    ensures { ran_by cpu.new result count.new words.new owners.new jumpers.new writers.new readers.new rows.new ≡ lent_run budget (state_of cpu.old words.old owners.old jumpers.old writers.old readers.old) (table rows.old) }
+{
+    host::kl_run(
+        cpu, words, owners, jumpers, writers, readers, rows, budget, count,
+    )
+}
+
+// Why the next step would answer its number: the answer, and in told the seven numbers of it. The record comes in its parts, each lent or
+// by value; nothing of the state changes.
+#[unsafe(no_mangle)]
+pub extern "C" fn kl_why_of(
+    n: u32,
+    regs: &[u32; 16],
+    pc: u32,
+    prev: u32,
+    jumped: bool,
+    strict: bool,
+    next: u32,
+    services: &[u64; 4],
+    words: &[u32],
+    owners: &[u32],
+    jumpers: &[u64],
+    writers: &[u64],
+    readers: &[u64],
+    told: &mut [u32; 7],
+) -> u32
+    ensures { told_by result told.new ≡ all_told (why (state_of (record { n = n; regs = regs.now; pc = pc; prev = prev; jumped = jumped; strict = strict; next = next; services = services.now }) words.now owners.now jumpers.now writers.now readers.now)) }
+{
+    host::kl_why_of(
+        n, regs, pc, prev, jumped, strict, next, services, words, owners, jumpers, writers,
+        readers, told,
+    )
+}
+
+// Takes a word apart: opcode, field a, field b, low 16 bits.
+#[unsafe(no_mangle)]
+pub extern "C" fn kl_decode(word: u32, fields: &mut [u32; 4]) -> u32
+    ensures { decoded_by result fields.new ≡ laid_out (decode word) }
+{
+    host::kl_decode(word, fields)
+}
+
+// Puts a word together.
+#[unsafe(no_mangle)]
+pub extern "C" fn kl_encode(op: u32, a: u32, b: u32, low: u32, word: &mut u32) -> u32
+    ensures { encoded_by result word.new ≡ encode op a b low }
+{
+    host::kl_encode(op, a, b, low, word)
+}
+
+// Writes an image to the front of a buffer; length is how many bytes it takes.
+#[unsafe(no_mangle)]
+pub extern "C" fn kl_write(
+    words: &[u32],
+    regs: &[u32; 16],
+    entry: u32,
+    out: &mut [u8],
+    length: &mut usize,
+) -> u32
+    ensures { written_by result length.new out.new ≡ write words.now regs.now entry out.old }
+{
+    host::kl_write(words, regs, entry, out, length)
+}
+
+// Assembles a source to the front of a buffer; line is the line at fault, and length how many bytes the image takes.
+#[unsafe(no_mangle)]
+pub extern "C" fn kl_assemble(
+    text: &[u8],
+    out: &mut [u8],
+    line: &mut u64,
+    length: &mut usize,
+) -> u32
+    ensures { assembled_by result line.new length.new out.new ≡ assemble text.now out.old }
+{
+    host::kl_assemble(text, out, line, length)
+}
+
+// Imports a text of Intel HEX to the front of a buffer, with registers and an entry; line is the record at fault, and length how many
+// bytes the image takes.
+#[unsafe(no_mangle)]
+pub extern "C" fn kl_import(
+    text: &[u8],
+    regs: &[u32; 16],
+    entry: u32,
+    out: &mut [u8],
+    line: &mut u64,
+    length: &mut usize,
+) -> u32
+    ensures { imported_by result line.new length.new out.new ≡ import text.now regs.now entry out.old }
+{
+    host::kl_import(text, regs, entry, out, line, length)
+}
+
+// Writes a source of words to the front of a buffer; length is how many bytes it takes.
+#[unsafe(no_mangle)]
+pub extern "C" fn kl_disassemble(words: &[u32], out: &mut [u8], length: &mut usize) -> u32
+    ensures { written_by result length.new out.new ≡ disassemble words.now out.old }
+{
+    host::kl_disassemble(words, out, length)
+}
+
+// Writes words as a text in the Intel HEX format to the front of a buffer; length is how many bytes it takes.
+#[unsafe(no_mangle)]
+pub extern "C" fn kl_export(words: &[u32], out: &mut [u8], length: &mut usize) -> u32
+    ensures { written_by result length.new out.new ≡ export words.now out.old }
+{
+    host::kl_export(words, out, length)
+}
+
+// The addresses that a compartment owns, services counted.
+#[unsafe(no_mangle)]
+pub extern "C" fn kl_owned(cpu: &Processor, owners: &[u32], number: u32) -> u32
+    ensures { result ≡ owned_count (state_of cpu.now [] owners.now [] [] []) number }
+{
+    host::kl_owned(cpu, owners, number)
+}
+
+// The addresses that a compartment may jump to, services counted.
+#[unsafe(no_mangle)]
+pub extern "C" fn kl_jumps(cpu: &Processor, jumpers: &[u64], number: u32) -> u32
+    ensures { result ≡ jump_count (state_of cpu.now [] [] jumpers.now [] []) number }
+{
+    host::kl_jumps(cpu, jumpers, number)
+}
+
+// The addresses that a compartment may store to. No service is among them.
+#[unsafe(no_mangle)]
+pub extern "C" fn kl_stores(cpu: &Processor, writers: &[u64], number: u32) -> u32
+    ensures { result ≡ store_count (state_of cpu.now [] [] [] writers.now []) number }
+{
+    host::kl_stores(cpu, writers, number)
+}
+
+// The most compartments that may write to any one word below N, its owner counted once.
+#[unsafe(no_mangle)]
+pub extern "C" fn kl_widest(cpu: &Processor, owners: &[u32], writers: &[u64]) -> u32
+    ensures { result ≡ widest (state_of cpu.now [] owners.now [] writers.now []) }
+{
+    host::kl_widest(cpu, owners, writers)
+}
