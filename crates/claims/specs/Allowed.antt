@@ -51,7 +51,7 @@ same h k = h ∙ sym k
 pub same_by : {X Y : Type 0} (back : X → Y) {x y z : X} → x ≡ z → y ≡ z → back x ≡ back y
 same_by back h k = ap back (same h k)
 
--- ---- the kit makes no plain reading for a call over a lent record. Its `clauses` can be named, and its `ensures` is one fact
+-- ---- for a call that is lent the record, the plain reading from its `clauses`: they can be named, and its `ensures` is one fact
 
 -- an assertion that is one plain fact, the same in every model
 pub record Fact (P : (w : World) → Pr w) : Type 2 where
@@ -65,7 +65,7 @@ Plain T = (κs : Lfts T.signature.lifetimes) → Args T.signature κs → Res T.
 module _ (T : Ended) (clauses : (M : Type 1) (𝓤 : Ura M) → (𝓛 : Logic 𝓤) → (Memory → SProp 𝓤) → (Routine → Fun 𝓤) → Clauses 𝓤 T) where
   -- the contract in a model
   abbrev there : (w : World) → Clauses w.𝓤 T
-  there w = clauses w.M w.𝓤 w.𝓛 w.𝓜.mem w.𝓡.run
+  there w = clauses w.M w.𝓤 w.𝓛 w.𝓜.mem w.𝓡.returns
 
   module _ (ghost : (κs : Lfts T.signature.lifetimes) (a : Args T.signature κs) (w : World) → (there w κs a).ghost) where
     -- the plain reading of its `ensures`

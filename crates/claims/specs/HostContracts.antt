@@ -1,4 +1,4 @@
--- The contracts of the calls for C that are lent the record: of each the plain reading, which the kit makes of every other call.
+-- The contracts of the calls for C that are lent the record: of each the plain reading, from its clauses.
 use Rattle.std.specs.Prelude.{refl}
 use Rattle.host.specs.contracts.kl_load as kl-load
 use Rattle.host.specs.contracts.kl_step as kl-step
@@ -10,22 +10,22 @@ use Rattle.host.specs.contracts.kl_widest as kl-widest
 use Rattle.claims.specs.Allowed.{Plain, read}
 
 abbrev pub load : Plain kl-load.ended
-load = read kl-load.ended (λ M. kl-load.clauses {M = M}) (λ κs a w. tt) (λ κs a r s. record { says = _; is = λ w. refl })
+load = read kl-load.ended (λ M 𝓤. kl-load.clauses {M = M} {𝓤 = 𝓤}) (λ κs a w. tt) (λ κs a r s. record { says = _; is = λ w. refl })
 
 abbrev pub step : Plain kl-step.ended
-step = read kl-step.ended (λ M. kl-step.clauses {M = M}) (λ κs a w. tt) (λ κs a r s. record { says = _; is = λ w. refl })
+step = read kl-step.ended (λ M 𝓤. kl-step.clauses {M = M} {𝓤 = 𝓤}) (λ κs a w. tt) (λ κs a r s. record { says = _; is = λ w. refl })
 
 abbrev pub run : Plain kl-run.ended
-run = read kl-run.ended (λ M. kl-run.clauses {M = M}) (λ κs a w. tt) (λ κs a r s. record { says = _; is = λ w. refl })
+run = read kl-run.ended (λ M 𝓤. kl-run.clauses {M = M} {𝓤 = 𝓤}) (λ κs a w. tt) (λ κs a r s. record { says = _; is = λ w. refl })
 
 abbrev pub owned : Plain kl-owned.ended
-owned = read kl-owned.ended (λ M. kl-owned.clauses {M = M}) (λ κs a w. tt) (λ κs a r s. record { says = _; is = λ w. refl })
+owned = read kl-owned.ended (λ M 𝓤. kl-owned.clauses {M = M} {𝓤 = 𝓤}) (λ κs a w. tt) (λ κs a r s. record { says = _; is = λ w. refl })
 
 abbrev pub jumps : Plain kl-jumps.ended
-jumps = read kl-jumps.ended (λ M. kl-jumps.clauses {M = M}) (λ κs a w. tt) (λ κs a r s. record { says = _; is = λ w. refl })
+jumps = read kl-jumps.ended (λ M 𝓤. kl-jumps.clauses {M = M} {𝓤 = 𝓤}) (λ κs a w. tt) (λ κs a r s. record { says = _; is = λ w. refl })
 
 abbrev pub stores : Plain kl-stores.ended
-stores = read kl-stores.ended (λ M. kl-stores.clauses {M = M}) (λ κs a w. tt) (λ κs a r s. record { says = _; is = λ w. refl })
+stores = read kl-stores.ended (λ M 𝓤. kl-stores.clauses {M = M} {𝓤 = 𝓤}) (λ κs a w. tt) (λ κs a r s. record { says = _; is = λ w. refl })
 
 abbrev pub widest : Plain kl-widest.ended
-widest = read kl-widest.ended (λ M. kl-widest.clauses {M = M}) (λ κs a w. tt) (λ κs a r s. record { says = _; is = λ w. refl })
+widest = read kl-widest.ended (λ M 𝓤. kl-widest.clauses {M = M} {𝓤 = 𝓤}) (λ κs a w. tt) (λ κs a r s. record { says = _; is = λ w. refl })

@@ -1,6 +1,6 @@
 -- The memories lent to a call, where they stand among its parameters, on entry or at exit.
 use Rattle.std.specs.Prelude.{List, ℕ}
-use Rattle.std.specs.Borrow.{Bor}
+use Rattle.std.specs.Borrow.{MutBor}
 use Rattle.rules.specs.State.{State}
 use Rattle.machine.specs.declared.Processor.{Processor}
 use Rattle.machine.specs.Views.{state_of}
@@ -8,10 +8,10 @@ use Rattle.loader.specs.Views.{lent}
 
 -- owners, jumpers, writers and readers, and what follows them; the same behind words
 abbrev pub Four : Type 0 → Type 0
-Four More = Bor (List ℕ) × (Bor (List ℕ) × (Bor (List ℕ) × (Bor (List ℕ) × More)))
+Four More = MutBor (List ℕ) × (MutBor (List ℕ) × (MutBor (List ℕ) × (MutBor (List ℕ) × More)))
 
 abbrev pub Five : Type 0 → Type 0
-Five More = Bor (List ℕ) × Four More
+Five More = MutBor (List ℕ) × Four More
 
 -- what stands in them
 abbrev pub Tags : Type 0
