@@ -7,8 +7,8 @@ use borrow.Author.Tests.{eq-eqb, ne_eqb, lt-ltb, le-ltb, ltb-true}
 use Rattle.std.proofs.Math.Dec.{ltb}
 use Rattle.std.proofs.Math.ListN.{length, length-set}
 use Rattle.common.specs.Answers as answer
-use Rattle.common.specs.Laws.Tests.{both}
-use Rattle.grammar.specs.Laws.Tables.{picks}
+use Rattle.common.proofs.Laws.Tests.{both}
+use Rattle.grammar.proofs.Laws.Tables.{picks}
 use Rattle.grammar.specs.Laws.Runs.{name_at}
 use Rattle.sources.specs.Labels.{Site}
 use Rattle.sources.specs.Meaning.{most}

@@ -10,7 +10,7 @@ use Rattle.common.specs.Answers as answer
 use Rattle.common.specs.Instructions.{bit}
 use Rattle.grammar.specs.Trees.{nothing, labelled, instruction, value}
 use Rattle.grammar.specs.Reading.Reader.{got, fault, deep}
-use Rattle.grammar.specs.Laws.Tables.{same_refl}
+use Rattle.grammar.proofs.Laws.Tables.{same_refl}
 use Rattle.grammar.specs.Laws.Runs.{name_at, line_at, line_end}
 use Rattle.grammar.specs.Reading.Shapes.{shape_of}
 use Rattle.sources.specs.Texts.{Reading, reading, readings}
@@ -18,11 +18,11 @@ use Rattle.sources.specs.Values.{Valued, is, unknown, outside}
 use Rattle.sources.specs.Labels.{Site, holds, words_in, defined, first, address}
 use Rattle.sources.specs.Words.{datum, instruction_word}
 use Rattle.sources.specs.Meaning.{most, Outcome, empty, word, at_fault, placed, outcome, meaning}
-use Rattle.sources.specs.Laws.Places.{readings_from}
-use Rattle.sources.specs.Laws.PlaceLaws.{readings_next}
-use Rattle.sources.specs.Laws.FirstLaws.{first_defined}
-use Rattle.sources.specs.Laws.Registers.{read_registers}
-use Rattle.sources.specs.Laws.Walks.{Walked, walk_ends, walk_faults, walk_passes, walk_holds}
+use Rattle.sources.proofs.Laws.Places.{readings_from}
+use Rattle.sources.proofs.Laws.PlaceLaws.{readings_next}
+use Rattle.sources.proofs.Laws.FirstLaws.{first_defined}
+use Rattle.sources.proofs.Laws.Registers.{read_registers}
+use Rattle.sources.proofs.Laws.Walks.{Walked, walk_ends, walk_faults, walk_passes, walk_holds}
 use Rattle.tokens.specs.Streams.{token_at}
 use Rattle.values.specs.declared.Fitted.{Fitted}
 use Rattle.values.specs.Values.{fitted}

@@ -2,7 +2,7 @@
 use Rattle.std.specs.Prelude.{◌≡◌, refl, ℕ, ◌%◌, ◌<◌}
 use Rattle.std.proofs.Common.{mod-eq_of_lt, arith}
 use Rattle.common.specs.Words.{encode}
-use Rattle.common.specs.Laws.WordLaws.{Allowed, allowed_is}
+use Rattle.common.proofs.Laws.WordLaws.{Allowed, allowed_is}
 use Rattle.sources.specs.Values.{Valued, is, unknown, outside, after}
 use Rattle.sources.specs.Words.{fields, word_of}
 use Rattle.values.specs.Fields.{fitted_of}

@@ -6,15 +6,15 @@ use Rattle.std.proofs.Math.Bool.{true, false}
 use mathlib.Core.List.{List, [], ◌∷◌, ◌++◌, append_assoc, append-nil}
 use Rattle.std.proofs.Math.Option.{Option}
 use Rattle.std.proofs.Math.Nat.{mod-eq_of_lt}
-use Rattle.common.specs.Laws.WordLaws.{Allowed}
+use Rattle.common.proofs.Laws.WordLaws.{Allowed}
 use Rattle.grammar.specs.Tokens.{Token, mnemonic, register, comma, Nop, Halt, Const, Bnz, one, two, three, opcode}
 use Rattle.grammar.specs.Trees.{Expr, product, negative, more, Product, factor, times, Factor, literal, label, here, group, Instruction, nop, halt, constant, moving, computing, jumping, branching, depth_e, depth_i}
 use Rattle.grammar.specs.Grammar.{Choices, optional, write_e, write_p, write_f, write_i, deepest}
 use Rattle.sources.specs.Values.{Valued, is, after, value_e}
 use Rattle.sources.specs.Labels.{Site}
 use Rattle.sources.specs.Words.{in_field, Fields, fields, fields_of, immediate, displacement, datum, instruction_word}
-use Rattle.sources.specs.Laws.Registers.{Registers}
-use Rattle.sources.specs.Theorems.Decodes.{fields_allowed}
+use Rattle.sources.proofs.Laws.Registers.{Registers}
+use Rattle.sources.proofs.Theorems.Decodes.{fields_allowed}
 use Rattle.grammar.specs.Reading.Kinds.{kind_of}
 use Rattle.tokens.specs.Streams.{stream, token_at}
 use Rattle.tokens.specs.Heads.{head}

@@ -6,14 +6,14 @@ use Rattle.std.proofs.Math.Bool.{true, false}
 use Rattle.std.proofs.Math.Option.{Option, none, some}
 use Rattle.std.proofs.lemmas.Bool.{eqb-false, not-true, not-false}
 use Rattle.std.proofs.Math.Dec.{eqb, leb}
-use Rattle.common.specs.Laws.Tests.{clash}
+use Rattle.common.proofs.Laws.Tests.{clash}
 use Rattle.grammar.specs.Reading.Lexer.{same}
-use Rattle.grammar.specs.Laws.Tables.{same_true}
+use Rattle.grammar.proofs.Laws.Tables.{same_true}
 use Rattle.grammar.specs.Laws.Runs.{name_at, line_at, line_end}
 use Rattle.grammar.specs.Reading.Shapes.{shape_of}
 use Rattle.sources.specs.Texts.{reading, readings}
 use Rattle.sources.specs.Labels.{Site, site, holds, defines, first}
-use Rattle.sources.specs.Laws.FirstLaws.{ahead, ahead_start, ahead_past, ahead_here, ahead_next}
+use Rattle.sources.proofs.Laws.FirstLaws.{ahead, ahead_start, ahead_past, ahead_here, ahead_next}
 use Rattle.tokens.specs.declared.Taken.{Taken}
 use Rattle.tokens.specs.Streams.{token_at}
 use Rattle.label_table.specs.declared.Found.{Found}

@@ -4,7 +4,7 @@ use Rattle.std.proofs.Common.{sym, ap, subst, inl, inr, arith, leb-true}
 use Rattle.std.proofs.Math.Bool.{or-true, and-false}
 use Rattle.std.proofs.Math.Decide.{ℕ_discrete}
 use Rattle.common.specs.Tables.{first_of, Exactly, NoneHolds}
-use Rattle.common.specs.Laws.Tests.{both}
+use Rattle.common.proofs.Laws.Tests.{both}
 use Rattle.rules.specs.State.{State}
 use Rattle.rules.specs.Checks.{lengths_differ}
 use Rattle.rules.specs.Images as images

@@ -5,10 +5,10 @@ use Rattle.paper.specs.Abstract as paper
 use Rattle.rules.specs.State.{State}
 use Rattle.rules.specs.Run.{Ran, run}
 use Rattle.rules.specs.Images.{Loaded, load}
-use Rattle.rules.specs.BothMachines.Runs.{Wants65}
-use Rattle.rules.specs.BothMachines.Changes.{Changes, Stored}
-use Rattle.rules.specs.BothMachines.Agreement.{BelowNext}
-use Rattle.rules.specs.BothMachines.Agreement as agreement
+use Rattle.rules.proofs.BothMachines.Runs.{Wants65}
+use Rattle.rules.proofs.BothMachines.Changes.{Changes, Stored}
+use Rattle.rules.proofs.BothMachines.Agreement.{BelowNext}
+use Rattle.rules.proofs.BothMachines.Agreement as agreement
 use Rattle.claims.specs.Demands as demands
 use Rattle.claims.specs.Demands.{UpTo, start, abstract, Agreed, Parted}
 use Rattle.claims.specs.Code.{Code}

@@ -5,8 +5,8 @@ use Rattle.paper.specs.Abstract as paper
 use Rattle.rules.specs.State.{State}
 use Rattle.rules.specs.Laws.Tested.{sized}
 use Rattle.rules.specs.Counts.{count_from, owned_count, jump_count, store_count, widest}
-use Rattle.rules.specs.Theorems.Widest.{writing, Met, widest_most, widest_met}
-use Rattle.rules.specs.BothMachines.Match.{Match}
+use Rattle.rules.proofs.Theorems.Widest.{writing, Met, widest_most, widest_met}
+use Rattle.rules.proofs.BothMachines.Match.{Match}
 use Rattle.machine.specs.declared.Processor.{Processor}
 use Rattle.machine.specs.Views.{processor_of, state_of}
 use Rattle.report.specs.Wholes as report

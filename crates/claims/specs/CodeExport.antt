@@ -5,10 +5,10 @@ use Rattle.common.specs.Tables.{Exactly, NoneHolds}
 use Rattle.rules.specs.Images.{Written, image_bytes}
 use Rattle.intel_hex.specs.Exporting.{text_of, export_checks, export}
 use Rattle.intel_hex.specs.Importing.{Imported, import, accepted}
-use Rattle.intel_hex.specs.Laws.Lengths as lengths
-use Rattle.intel_hex.specs.Theorems.Numbers as numbers
-use Rattle.intel_hex.specs.Theorems.Exported as exported
-use Rattle.intel_hex.specs.Theorems.RoundTrip as round_trip
+use Rattle.intel_hex.proofs.Laws.Lengths as lengths
+use Rattle.intel_hex.proofs.Theorems.Numbers as numbers
+use Rattle.intel_hex.proofs.Theorems.Exported as exported
+use Rattle.intel_hex.proofs.Theorems.RoundTrip as round_trip
 use Rattle.exporter.proofs.export.Reads as exporter
 use Rattle.host.proofs.kl_export.Reads as kl-export
 use Rattle.claims.specs.Allowed.{Promise, Allows, allowed}

@@ -6,11 +6,11 @@ use Rattle.rules.specs.State.{State}
 use Rattle.rules.specs.Images.{Loaded, image_bytes, loaded, load}
 use Rattle.intel_hex.specs.Reading.{Said, says, reading}
 use Rattle.intel_hex.specs.Importing.{past, words_of, end_checks, Imported, import}
-use Rattle.intel_hex.specs.Theorems.Numbers.{FirstFault}
-use Rattle.intel_hex.specs.Theorems.Numbers as numbers
-use Rattle.intel_hex.specs.Theorems.Accepted.{Says}
-use Rattle.intel_hex.specs.Theorems.Accepted as accepted
-use Rattle.intel_hex.specs.Theorems.Answers.{is_answer, import_answers}
+use Rattle.intel_hex.proofs.Theorems.Numbers.{FirstFault}
+use Rattle.intel_hex.proofs.Theorems.Numbers as numbers
+use Rattle.intel_hex.proofs.Theorems.Accepted.{Says}
+use Rattle.intel_hex.proofs.Theorems.Accepted as accepted
+use Rattle.intel_hex.proofs.Theorems.Answers.{is_answer, import_answers}
 use Rattle.importer.proofs.import.Reads as importer
 use Rattle.host.proofs.kl_import.Reads as kl-import
 use Rattle.claims.specs.Allowed.{Promise, Allows, allowed}

@@ -3,9 +3,9 @@ use Rattle.std.specs.Prelude.{◌≡◌, Bool, List, ◌++◌, ℕ, ◌≤◌, �
 use Rattle.std.proofs.Common.{ap, ◌∙◌}
 use Rattle.printed.specs.Text.{Outcome, text}
 use Rattle.printed.specs.Outcome.{outcome, status, Printed, print}
-use Rattle.printed.specs.Theorems.Tells as tells
-use Rattle.printed.specs.Theorems.Printing as printing
-use Rattle.printed.specs.Theorems.Bound as bound
+use Rattle.printed.proofs.Theorems.Tells as tells
+use Rattle.printed.proofs.Theorems.Printing as printing
+use Rattle.printed.proofs.Theorems.Bound as bound
 use Rattle.printer.proofs.print.Reads as printer
 use Rattle.claims.specs.Allowed.{Promise, Allows, allowed}
 

@@ -2,17 +2,17 @@
 use Rattle.std.specs.Prelude.{◌≡◌, Bool, List, ◌↔◌, ◌⊎◌, ℕ, zero, suc, ◌≤◌, ◌<◌}
 use Rattle.std.proofs.Common.{sym, ap, ◌∙◌, subst, arith}
 use Rattle.common.specs.Words as words
-use Rattle.common.specs.Laws.WordLaws.{Allowed, Above, Outside}
+use Rattle.common.proofs.Laws.WordLaws.{Allowed, Above, Outside}
 use Rattle.rules.specs.State.{State}
 use Rattle.rules.specs.Step.{step}
 use Rattle.rules.specs.Run.{Ran, run}
 use Rattle.rules.specs.Images as images
 use Rattle.common.specs.Tables.{Exactly, NoneHolds}
 use Rattle.rules.specs.Checks.{checks}
-use Rattle.rules.specs.Theorems.Numbers as numbers
+use Rattle.rules.proofs.Theorems.Numbers as numbers
 use Rattle.rules.specs.Images.{load_checks, write_checks}
-use Rattle.rules.specs.Theorems.ImageNumbers as image_numbers
-use Rattle.rules.specs.Theorems.Stays.{run_again}
+use Rattle.rules.proofs.Theorems.ImageNumbers as image_numbers
+use Rattle.rules.proofs.Theorems.Stays.{run_again}
 use Rattle.claims.specs.Demands as demands
 use Rattle.claims.specs.Demands.{UpTo, blank_over}
 use Rattle.claims.specs.Promises as promises

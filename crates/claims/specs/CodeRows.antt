@@ -12,8 +12,8 @@ use Rattle.rules.specs.State.{State}
 use Rattle.rules.specs.Run.{Ran, run}
 use Rattle.rules.specs.Images.{Loaded, load, size_in}
 use Rattle.rules.specs.Rows.{Row, no_row, owned_below, fresh_rows, lent_checks, lent_load_checks, lent_load_verdict, LentStepped, lent_step, lent_load, LentRan, lent_run}
-use Rattle.rules.specs.Theorems.Rows.{told, Right, lent_step_number, lent_load_number, stopped_rows, lent_load_lem, run_right}
-use Rattle.rules.specs.BothMachines.LoadedRows as loaded
+use Rattle.rules.proofs.Theorems.Rows.{told, Right, lent_step_number, lent_load_number, stopped_rows, lent_load_lem, run_right}
+use Rattle.rules.proofs.BothMachines.LoadedRows as loaded
 use Rattle.claims.specs.Lending.{Lending, told_load, one_lent, run_one_lent}
 use Rattle.claims.specs.Lending as lending
 use Rattle.claims.specs.Code.{Code, with_rows, for_c}

@@ -6,11 +6,11 @@ use Rattle.sheets.specs.Lines.{entry, line_text}
 use Rattle.sheets.specs.Totals.{Note, note_of, Totals, totals, totals_text, status, halted, used, stopped, stops}
 use Rattle.sheets.specs.Told as told
 use Rattle.sheets.specs.Told.{Told, Lined, tally}
-use Rattle.sheets.specs.Theorems.Sums.{sum_of}
-use Rattle.sheets.specs.Theorems.Exact.{most}
-use Rattle.sheets.specs.Theorems.Images.{entries, night_exact, night_sum}
-use Rattle.sheets.specs.Theorems.Bound.{line_most, night_most}
-use Rattle.sheets.specs.Theorems.Telling as telling
+use Rattle.sheets.proofs.Theorems.Sums.{sum_of}
+use Rattle.sheets.proofs.Theorems.Exact.{most}
+use Rattle.sheets.proofs.Theorems.Images.{entries, night_exact, night_sum}
+use Rattle.sheets.proofs.Theorems.Bound.{line_most, night_most}
+use Rattle.sheets.proofs.Theorems.Telling as telling
 use Rattle.sheet.specs.Views as seen
 use Rattle.sheet.proofs.line.Reads as Line-of
 use Rattle.sheet.proofs.none.Reads as none_of

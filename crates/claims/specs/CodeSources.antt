@@ -5,11 +5,11 @@ use Rattle.rules.specs.State.{State}
 use Rattle.rules.specs.Images.{Loaded, Written, loaded, load}
 use Rattle.sources.specs.Meaning.{Assembled, says, meaning, assemble, no_registers}
 use Rattle.sources.specs.Listing.{disassemble}
-use Rattle.sources.specs.Theorems.TextNumbers.{FirstFault}
-use Rattle.sources.specs.Theorems.Assembling.{Fits, TooShort}
-use Rattle.sources.specs.Theorems.Accepted.{Room}
-use Rattle.sources.specs.Listings.ListingBack.{Small}
-use Rattle.sources.specs.Listings.ListingNumbers as listing
+use Rattle.sources.proofs.Theorems.TextNumbers.{FirstFault}
+use Rattle.sources.proofs.Theorems.Assembling.{Fits, TooShort}
+use Rattle.sources.proofs.Theorems.Accepted.{Room}
+use Rattle.sources.proofs.Listings.ListingBack.{Small}
+use Rattle.sources.proofs.Listings.ListingNumbers as listing
 use Rattle.assembler.proofs.assemble.Reads as assembler
 use Rattle.disassembler.proofs.disassemble.Reads as disassembler
 use Rattle.host.proofs.kl_assemble.Reads as kl-assemble

@@ -5,10 +5,10 @@ use Rattle.common.specs.Words as words
 use Rattle.rules.specs.State.{State}
 use Rattle.rules.specs.Run.{Ran, run}
 use Rattle.rules.specs.Images as images
-use Rattle.rules.specs.Laws.FormLaws.{Lent}
-use Rattle.rules.specs.Theorems.Additive.{added}
-use Rattle.rules.specs.Theorems.Rest.{Kept}
-use Rattle.rules.specs.Theorems.Alike.{Alike, AlikeRuns}
+use Rattle.rules.proofs.Laws.FormLaws.{Lent}
+use Rattle.rules.proofs.Theorems.Additive.{added}
+use Rattle.rules.proofs.Theorems.Rest.{Kept}
+use Rattle.rules.proofs.Theorems.Alike.{Alike, AlikeRuns}
 use Rattle.claims.specs.Demands as demands
 use Rattle.claims.specs.Promises as promises
 use Rattle.claims.specs.Strict as strict

@@ -4,9 +4,9 @@ use Rattle.std.proofs.Common.{sym, subst, inl, inr, ⊎_elim, arith, leb-true, e
 use Rattle.std.proofs.Math.Bool.{or-true, or-false, and-false}
 use Rattle.std.proofs.Math.Decide.{ℕ_discrete}
 use Rattle.common.specs.Words.{allowed, decode, encode}
-use Rattle.common.specs.Laws.WordLaws as words
+use Rattle.common.proofs.Laws.WordLaws as words
 use Rattle.common.specs.Services.{is_service}
-use Rattle.common.specs.Laws.Tests.{both}
+use Rattle.common.proofs.Laws.Tests.{both}
 use Rattle.paper.specs.Abstract as paper
 use Rattle.rules.specs.Compartments.{main_alone}
 use Rattle.rules.specs.State.{State}
@@ -15,15 +15,15 @@ use Rattle.rules.specs.Run.{Ran, run}
 use Rattle.rules.specs.Images.{size_in, entry_in, words_of, regs_of, loaded, entry_checks, register_checks, image_checks, load_checks, load, image_bytes, write_checks, write}
 use Rattle.common.specs.Tables.{Check, Exactly}
 use Rattle.rules.specs.Checks.{load_forbidden, checks}
-use Rattle.rules.specs.Theorems.Numbers.{step_number}
-use Rattle.rules.specs.Theorems.ImageNumbers.{load_number, write_number}
-use Rattle.rules.specs.Theorems.Grows.{run_same_sizes}
-use Rattle.rules.specs.Theorems.Stays as stays
-use Rattle.rules.specs.Theorems.Refusals as refusals
-use Rattle.rules.specs.BothMachines.Match.{Match}
-use Rattle.rules.specs.BothMachines.Runs.{Wants65}
-use Rattle.rules.specs.BothMachines.Changes.{Changes, Stored}
-use Rattle.rules.specs.BothMachines.Agreement as agreement
+use Rattle.rules.proofs.Theorems.Numbers.{step_number}
+use Rattle.rules.proofs.Theorems.ImageNumbers.{load_number, write_number}
+use Rattle.rules.proofs.Theorems.Grows.{run_same_sizes}
+use Rattle.rules.proofs.Theorems.Stays as stays
+use Rattle.rules.proofs.Theorems.Refusals as refusals
+use Rattle.rules.proofs.BothMachines.Match.{Match}
+use Rattle.rules.proofs.BothMachines.Runs.{Wants65}
+use Rattle.rules.proofs.BothMachines.Changes.{Changes, Stored}
+use Rattle.rules.proofs.BothMachines.Agreement as agreement
 use Rattle.images.specs.RoundTrip as images
 
 -- ==== 1. "Every image, state, instruction word and step count is met with an answer. Bad ones are refused by number,

@@ -6,7 +6,7 @@ use Rattle.rules.specs.State.{State}
 use Rattle.rules.specs.Run.{Ran, run}
 use Rattle.rules.specs.Images as images
 use Rattle.rules.specs.Rows.{Row, LentStepped, lent_step, LentRan, lent_run, lent_load}
-use Rattle.rules.specs.Theorems.Rows.{told, lent_load_lem, same_run}
+use Rattle.rules.proofs.Theorems.Rows.{told, lent_load_lem, same_run}
 use Rattle.rows.specs.Views.{table}
 use Rattle.machine.proofs.Processor.step_rows.Reads as step-rows
 use Rattle.machine.proofs.Processor.run_rows.Reads as run-rows

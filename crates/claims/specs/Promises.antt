@@ -2,8 +2,8 @@
 use Rattle.std.specs.Prelude.{◌≡◌, Bool, true, false, cond, ◌&&◌, not, List, [], ◌∷◌, ◌↔◌, ℕ, suc, ◌+◌, ◌*◌, ◌≤◌, ◌<◌, ltb, leb, eqb, length}
 use Rattle.common.specs.Opcodes as is
 use Rattle.common.specs.Words.{instruction, none, op_of, a_of, b_of, low_of, decode, encode}
-use Rattle.common.specs.Laws.WordLaws as words
-use Rattle.common.specs.Laws.WordLaws.{Allowed, Above, Outside}
+use Rattle.common.proofs.Laws.WordLaws as words
+use Rattle.common.proofs.Laws.WordLaws.{Allowed, Above, Outside}
 use Rattle.common.specs.Instructions.{forward, back, offset, reg}
 use Rattle.common.specs.AddressSets.{is_empty, in_set}
 use Rattle.rules.specs.State.{State}
@@ -11,20 +11,20 @@ use Rattle.rules.specs.Checks.{set_a, good_sets, sets_within, returns}
 use Rattle.rules.specs.Step.{step}
 use Rattle.rules.specs.Run.{run}
 use Rattle.rules.specs.Images.{field, whole, size_in, registers_at, registers_in, entry_at, entry_in, entry_checks, last_zero, register_checks, image_checks, load_checks, load, image_bytes, write_checks, write}
-use Rattle.rules.specs.Examples.Lines.{At, TagsAsLoaded, Called, table, All}
-use Rattle.rules.specs.Examples.LineProofs.{lines}
+use Rattle.rules.proofs.Examples.Lines.{At, TagsAsLoaded, Called, table, All}
+use Rattle.rules.proofs.Examples.LineProofs.{lines}
 use Rattle.common.specs.Tables.{on, Exactly, NoneHolds}
 use Rattle.rules.specs.Checks as of
-use Rattle.rules.specs.Theorems.Numbers as numbers
-use Rattle.rules.specs.Theorems.ImageNumbers as image_numbers
-use Rattle.rules.specs.Theorems.Additive as additive
-use Rattle.rules.specs.Theorems.Counted as counts
-use Rattle.rules.specs.Theorems.Grows as grows
-use Rattle.rules.specs.Laws.FormLaws.{Lent}
-use Rattle.rules.specs.Theorems.Rest.{Kept}
-use Rattle.rules.specs.Theorems.Rest as rest
-use Rattle.rules.specs.Theorems.Alike.{Alike, AlikeRuns}
-use Rattle.rules.specs.Theorems.Alike as alike
+use Rattle.rules.proofs.Theorems.Numbers as numbers
+use Rattle.rules.proofs.Theorems.ImageNumbers as image_numbers
+use Rattle.rules.proofs.Theorems.Additive as additive
+use Rattle.rules.proofs.Theorems.Counted as counts
+use Rattle.rules.proofs.Theorems.Grows as grows
+use Rattle.rules.proofs.Laws.FormLaws.{Lent}
+use Rattle.rules.proofs.Theorems.Rest.{Kept}
+use Rattle.rules.proofs.Theorems.Rest as rest
+use Rattle.rules.proofs.Theorems.Alike.{Alike, AlikeRuns}
+use Rattle.rules.proofs.Theorems.Alike as alike
 
 -- ==== "The P lines are proved of the rules as a single table under one claim"
 

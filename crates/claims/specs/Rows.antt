@@ -9,10 +9,10 @@ use Rattle.rules.specs.Run.{Ran}
 use Rattle.rules.specs.Images.{load, size_in}
 use Rattle.rules.specs.Rows.{Row, no_row, owned_below, fresh_rows, LentStepped, LentRan, lent_run, lent_load}
 use Rattle.rules.specs.Laws.RowLaws.{length_rows}
-use Rattle.rules.specs.Theorems.Rows.{told, Right, lent_load_lem, same_run}
-use Rattle.rules.specs.BothMachines.Runs.{Together}
-use Rattle.rules.specs.BothMachines.Agreement as agreed
-use Rattle.rules.specs.BothMachines.LoadedRows as loaded
+use Rattle.rules.proofs.Theorems.Rows.{told, Right, lent_load_lem, same_run}
+use Rattle.rules.proofs.BothMachines.Runs.{Together}
+use Rattle.rules.proofs.BothMachines.Agreement as agreed
+use Rattle.rules.proofs.BothMachines.LoadedRows as loaded
 
 module _ (m : Bool) (bytes : List ℕ) (old : State) (rows : List Row) (all : length rows ≡ numbers) (ok : (lent_load m bytes old rows).answer ≡ answer.done) where
   -- n steps, lent the memories and the rows that the load was lent

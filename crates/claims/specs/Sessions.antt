@@ -6,11 +6,11 @@ use Rattle.std.proofs.lemmas.Bool.{eqb-false}
 use Rattle.rules.specs.State.{State}
 use Rattle.rules.specs.Step.{step}
 use Rattle.rules.specs.Run.{Ran, run}
-use Rattle.rules.specs.Laws.StepLaws.{run_goes_on, run_ends}
-use Rattle.rules.specs.Theorems.Additive.{run_zero, and_then, run_adds}
-use Rattle.rules.specs.Theorems.Counted as counts
-use Rattle.rules.specs.Theorems.Stays.{stopped_stays}
-use Rattle.rules.specs.BothMachines.Changes.{Changes}
+use Rattle.rules.proofs.Laws.StepLaws.{run_goes_on, run_ends}
+use Rattle.rules.proofs.Theorems.Additive.{run_zero, and_then, run_adds}
+use Rattle.rules.proofs.Theorems.Counted as counts
+use Rattle.rules.proofs.Theorems.Stays.{stopped_stays}
+use Rattle.rules.proofs.BothMachines.Changes.{Changes}
 use Rattle.claims.specs.Code.{Code}
 
 -- what is asked for: one step by a step, any budget by a run

@@ -6,24 +6,24 @@ use Rattle.grammar.specs.Trees.{Expr, Instruction, Line, instruction, value}
 use Rattle.grammar.specs.Grammar.{Choices, write, deepest}
 use Rattle.grammar.specs.Reading.Reader.{got}
 use Rattle.grammar.specs.Sources.{SourceSays, SourceTooDeep}
-use Rattle.grammar.specs.Laws.Verdicts as verdicts
-use Rattle.grammar.specs.Laws.SourceVerdicts as readings-of
+use Rattle.grammar.proofs.Laws.Verdicts as verdicts
+use Rattle.grammar.proofs.Laws.SourceVerdicts as readings-of
 use Rattle.sources.specs.Values.{is, unknown, outside, value_e}
 use Rattle.sources.specs.Texts.{lines, Reading, reading, readings}
 use Rattle.sources.specs.Labels.{words_in, address}
 use Rattle.sources.specs.Meaning.{at_fault, outcome, says, refused, meaning, assemble}
 use Rattle.sources.specs.Listing.{listing}
 use Rattle.sources.specs.Laws.OnTheWay.{Known, Unknown, Stays, Leaves, plain_e}
-use Rattle.sources.specs.Laws.ValueLaws as values
-use Rattle.sources.specs.Laws.LabelLaws as labels
-use Rattle.sources.specs.Laws.LineNumbers as line
-use Rattle.sources.specs.Theorems.TextNumbers as text
-use Rattle.sources.specs.Theorems.Assembling as assembling
-use Rattle.sources.specs.Theorems.Decodes.{Decodes}
-use Rattle.sources.specs.Theorems.TextDecodes as decodes
-use Rattle.sources.specs.Theorems.Accepted as accepted
-use Rattle.sources.specs.Listings.ListingBack as back
-use Rattle.sources.specs.Listings.ListingLengths as lengths
+use Rattle.sources.proofs.Laws.ValueLaws as values
+use Rattle.sources.proofs.Laws.LabelLaws as labels
+use Rattle.sources.proofs.Laws.LineNumbers as line
+use Rattle.sources.proofs.Theorems.TextNumbers as text
+use Rattle.sources.proofs.Theorems.Assembling as assembling
+use Rattle.sources.proofs.Theorems.Decodes.{Decodes}
+use Rattle.sources.proofs.Theorems.TextDecodes as decodes
+use Rattle.sources.proofs.Theorems.Accepted as accepted
+use Rattle.sources.proofs.Listings.ListingBack as back
+use Rattle.sources.proofs.Listings.ListingLengths as lengths
 
 -- ---- the grammar
 

@@ -6,16 +6,16 @@ use Rattle.common.specs.Instructions.{reg}
 use Rattle.common.specs.Services.{service_count, is_service, is_service_number}
 use Rattle.common.specs.AddressSets.{in_set}
 use Rattle.paper.specs.Abstract as paper
-use Rattle.paper.specs.Theorems.Property as property
+use Rattle.paper.proofs.Theorems.Property as property
 use Rattle.rules.specs.Compartments.{empty, insert, service_numbers}
 use Rattle.rules.specs.State.{State, first_number, in_memory, owner_at, owns, may_read}
 use Rattle.rules.specs.Checks.{instruction_at, named, set_r}
 use Rattle.rules.specs.Step.{step}
 use Rattle.rules.specs.Run.{Ran, run}
 use Rattle.rules.specs.Images.{load}
-use Rattle.rules.specs.Theorems.Readers as readers
-use Rattle.rules.specs.Theorems.Sheet as sheet
-use Rattle.rules.specs.Theorems.Unread as unread
+use Rattle.rules.proofs.Theorems.Readers as readers
+use Rattle.rules.proofs.Theorems.Sheet as sheet
+use Rattle.rules.proofs.Theorems.Unread as unread
 use Rattle.claims.specs.Code.{Code, one_step, run_one}
 
 -- ---- strict mode, of any state

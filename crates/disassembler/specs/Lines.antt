@@ -3,11 +3,11 @@ use Rattle.std.specs.Prelude.{◌≡◌, refl, true, List, [], ◌∷◌, ◌++�
 use Rattle.std.proofs.Common.{sym, ◌∙◌, subst, append_assoc, add-one, arith, le-leb, eq-eqb, ne_eqb, length-append, take-append-drop, take-suc, take_all}
 use Rattle.std.proofs.Math.Path.{ap}
 use Rattle.common.specs.Words.{Decoded, decode}
-use Rattle.common.specs.Laws.WordLaws.{decoded_small}
+use Rattle.common.proofs.Laws.WordLaws.{decoded_small}
 use Rattle.numerals.specs.Bytes.{feed}
 use Rattle.sources.specs.Listing.{operands, number_text, word_text, listing}
-use Rattle.sources.specs.Listings.ListingRows.{name}
-use Rattle.sources.specs.Listings.ListingLengths.{listing_fits}
+use Rattle.sources.proofs.Listings.ListingRows.{name}
+use Rattle.sources.proofs.Listings.ListingLengths.{listing_fits}
 use Rattle.disassembler.specs.Stores.{Stored, stored_then, stored_none}
 
 -- ---- a word

@@ -2,7 +2,7 @@
 use Rattle.std.specs.Prelude.{◌≡◌, refl, List, [], ◌∷◌, ℕ, ◌+◌, ◌*◌, ◌<◌, ◌≤◌, length, get_or, take, drop}
 use Rattle.std.proofs.Common.{ap, ◌∙◌, subst, arith, length-take, length-drop}
 use Rattle.numerals.specs.Bytes.{bytes}
-use Rattle.sources.specs.Listings.ListingRows.{AllBelow, none, ◌and◌, below, name}
+use Rattle.sources.proofs.Listings.ListingRows.{AllBelow, none, ◌and◌, below, name}
 use Rattle.disassembler.specs.Stores.{Stored}
 
 -- how many letters

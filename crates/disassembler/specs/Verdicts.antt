@@ -4,7 +4,7 @@ use Rattle.std.proofs.Common.{sym, ◌∙◌, inl, inr, arith, leb-true, leb-fal
 use Rattle.common.specs.Answers as answer
 use Rattle.images.specs.Stores.{sets_over}
 use Rattle.sources.specs.Listing.{listing, list_verdict, disassemble}
-use Rattle.sources.specs.Listings.ListingNumbers.{Fits, short_31, size_21, fits_0, accepts, listed}
+use Rattle.sources.proofs.Listings.ListingNumbers.{Fits, short_31, size_21, fits_0, accepts, listed}
 use Rattle.disassembler.specs.Stores.{Stored}
 
 -- ---- check by check

@@ -8,8 +8,8 @@ use Rattle.images.specs.Stores.{sets_over}
 use Rattle.numerals.specs.Writing.{put}
 use Rattle.text.specs.Puts.{put_of, put_whole}
 use Rattle.intel_hex.specs.Exporting.{text_of, export_checks, export_verdict, export}
-use Rattle.intel_hex.specs.Laws.Lengths.{length_text}
-use Rattle.intel_hex.specs.Theorems.Exported.{fits, exported}
+use Rattle.intel_hex.proofs.Laws.Lengths.{length_text}
+use Rattle.intel_hex.proofs.Theorems.Exported.{fits, exported}
 
 -- ---- check by check
 

@@ -8,7 +8,7 @@ use Rattle.numerals.specs.Writing.{put}
 use Rattle.text.specs.Puts.{put_of, put_nothing, put_behind}
 use Rattle.intel_hex.specs.Records.{sum}
 use Rattle.intel_hex.specs.Exporting.{pairs}
-use Rattle.intel_hex.specs.Laws.Written.{sum_append}
+use Rattle.intel_hex.proofs.Laws.Written.{sum_append}
 
 -- ---- bytes
 

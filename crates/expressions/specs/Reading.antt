@@ -7,7 +7,7 @@ use Prim.Native.Nat.{ℕ, suc, ◌-◌}
 use native.Mathlib.Omega.{arith}
 use borrow.Author.Tests.{eq-eqb, ne_eqb}
 use Rattle.common.specs.Answers as answer
-use Rattle.common.specs.Laws.Tests.{clash}
+use Rattle.common.proofs.Laws.Tests.{clash}
 use Rattle.grammar.specs.Laws.Runs.{name_at}
 use Rattle.sources.specs.Labels.{Site}
 use Rattle.label_table.specs.declared.Found.{Found}

@@ -8,7 +8,7 @@ use Prim.Native.Nat.{ℕ, zero, suc, ◌+◌, ◌-◌, ◌<◌, ◌≤◌}
 use native.Mathlib.Omega.{arith}
 use Rattle.std.proofs.Math.ListN.{length}
 use Rattle.common.specs.Answers as answer
-use Rattle.common.specs.Laws.Tests.{clash}
+use Rattle.common.proofs.Laws.Tests.{clash}
 use Rattle.sources.specs.Labels.{Site}
 use Rattle.tokens.specs.declared.Taken.{Taken}
 use Rattle.tokens.specs.Streams.{token_at}

@@ -7,7 +7,7 @@ use borrow.Author.Tests.{le-leb}
 use Rattle.std.proofs.Math.Dec.{leb}
 use Rattle.common.specs.Answers as answer
 use Rattle.common.specs.Tables.{first_of, Exactly, NoneHolds}
-use Rattle.common.specs.Laws.TableLaws.{nonzero, on_its_condition, done_otherwise}
+use Rattle.common.proofs.Laws.TableLaws.{nonzero, on_its_condition, done_otherwise}
 use Rattle.rules.specs.State.{State}
 use Rattle.rules.specs.Checks.{lengths_differ}
 use Rattle.rules.specs.Images.{whole, size_in, entry_checks, register_checks, image_checks, image_verdict, loaded, not_loaded, blank, load_checks, load_verdict, load, Checked, told, four_memories, check}

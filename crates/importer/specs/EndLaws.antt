@@ -13,7 +13,7 @@ use Rattle.images.specs.Filling.{length_fields}
 use Rattle.intel_hex.specs.Reading.{Reading, says, refused, reading}
 use Rattle.intel_hex.specs.Importing as meant
 use Rattle.intel_hex.specs.Importing.{past, filled, words_of, end_checks, end_verdict, refusal, accepted, image_of, import}
-use Rattle.intel_hex.specs.Theorems.Accepted.{past_most}
+use Rattle.intel_hex.proofs.Theorems.Accepted.{past_most}
 use Rattle.importer.specs.declared.Imported.{Imported}
 use Rattle.importer.specs.declared.reading.Outcome.{Outcome}
 use Rattle.importer.specs.Views.{imported_of, said, read_of, bare}

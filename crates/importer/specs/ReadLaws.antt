@@ -6,7 +6,7 @@ use Rattle.std.proofs.Math.Bool.{true, false}
 use Rattle.std.proofs.lemmas.Bool.{eqb-false}
 use Rattle.std.proofs.Math.Dec.{eqb}
 use Rattle.common.specs.Answers as answer
-use Rattle.common.specs.Laws.Tests.{bool_ext}
+use Rattle.common.proofs.Laws.Tests.{bool_ext}
 use Rattle.numerals.specs.Bytes.{feed}
 use Rattle.grammar.specs.Laws.Runs.{line_of, line_at, line_end}
 use Rattle.intel_hex.specs.Records.{Line, line, lines, onto, body}

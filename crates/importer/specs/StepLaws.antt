@@ -9,7 +9,7 @@ use Rattle.std.proofs.lemmas.List.Edits.{sets}
 use Rattle.std.proofs.Math.Seq.{take-length}
 use Rattle.common.specs.Answers as answer
 use Rattle.common.specs.Tables.{first_of, NoneHolds}
-use Rattle.common.specs.Laws.TableLaws.{nonzero, done_otherwise}
+use Rattle.common.proofs.Laws.TableLaws.{nonzero, done_otherwise}
 use Rattle.intel_hex.specs.Records.{line, body, octet, octets, count, type, data_type, end_type, base_type, base_of, formed, wrong_count, sums_up, known}
 use Rattle.intel_hex.specs.Reading.{room, Said, beyond, any_given, given, record_checks, record_verdict, with_record}
 use Rattle.importer.specs.Views.{said}

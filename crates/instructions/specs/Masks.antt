@@ -5,9 +5,9 @@ use borrow.Author.Tests.{leb-true, eqb-true, lt-ltb, le-ltb, le-leb, eq-eqb}
 use Rattle.std.specs.Int.Bits.{bit_and}
 use Rattle.std.proofs.lemmas.Nat.{and_mask, and_block, and_le_l}
 use Rattle.common.specs.Answers as answer
-use Rattle.common.specs.Laws.Tests.{both, bool_ext}
+use Rattle.common.proofs.Laws.Tests.{both, bool_ext}
 use Rattle.common.specs.Words.{row, allowed, op_of, a_of, b_of, low_of, Decoded, instruction, none, decode}
-use Rattle.common.specs.Laws.WordLaws.{nibble, half_word, row_full, row_high, row_small}
+use Rattle.common.proofs.Laws.WordLaws.{nibble, half_word, row_full, row_high, row_small}
 
 -- the bits that an opcode uses: the largest value of each field, in the field's place
 unfoldable pub used_of : ℕ → ℕ

@@ -2,10 +2,10 @@
 use Rattle.std.specs.Prelude.{◌≡◌, refl, Bool, true, false, ◌&&◌, not, ℕ, ◌<◌, ltb}
 use Rattle.std.proofs.Common.{sym, ap, ◌∙◌, arith}
 use borrow.Author.Tests.{ltb-true, lt-ltb, not-true, not-false}
-use Rattle.common.specs.Laws.Tests.{both, clash}
+use Rattle.common.proofs.Laws.Tests.{both, clash}
 use Rattle.common.specs.Answers as answer
 use Rattle.common.specs.Words.{allowed, op_of, a_of, b_of, low_of, pack, encode}
-use Rattle.common.specs.Laws.WordLaws.{is_allowed}
+use Rattle.common.proofs.Laws.WordLaws.{is_allowed}
 
 abbrev pub has_room : ℕ → ℕ → ℕ → ℕ → Bool
 has_room op a b low = ltb op 14 && ltb a 16 && ltb b 16 && ltb low 65536

@@ -4,6 +4,3 @@ pub mod Reading
 pub mod Importing
 pub mod Exporting
 -- ---- what is proved of it
-pub mod Laws
-pub mod Theorems
-pub mod Examples

@@ -6,7 +6,7 @@ use Rattle.std.proofs.Math.Bool.{true, false}
 use Rattle.std.proofs.Math.Option.{Option, none, some}
 use Prim.Native.Nat.{ℕ, zero, suc, ◌+◌, ◌*◌, ◌%◌, ◌<◌, ◌≤◌}
 use Rattle.std.proofs.Math.Dec.{eqb}
-use Rattle.common.specs.Laws.Tests.{clash, both}
+use Rattle.common.proofs.Laws.Tests.{clash, both}
 use Rattle.grammar.specs.Reading.Lexer.{same}
 use Rattle.sources.specs.Labels.{Site}
 use Rattle.label_table.specs.Table.{most, hash_on, hash, count, head, name, site_of, link, is_entry, walk, looked}

@@ -8,8 +8,8 @@ use Rattle.grammar.specs.Grammar.{deepest, Says}
 use Rattle.grammar.specs.Reading.Reader.{got, fault, deep}
 use Rattle.grammar.specs.Reading.Lexer.{same}
 use Rattle.grammar.specs.Sources.{SourceSays}
-use Rattle.grammar.specs.Laws.SourceVerdicts.{source_exactly}
-use Rattle.grammar.specs.Laws.Sound.{sound}
+use Rattle.grammar.proofs.Laws.SourceVerdicts.{source_exactly}
+use Rattle.grammar.proofs.Laws.Sound.{sound}
 use Rattle.grammar.specs.Reading.Shapes.{shape_of}
 use Rattle.grammar.specs.Laws.Runs.{name_at, line_at}
 use Rattle.sources.specs.Texts.{Reading, reading}

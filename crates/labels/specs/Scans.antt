@@ -2,12 +2,12 @@
 use Rattle.std.specs.Prelude.{◌≡◌, refl, Bool, true, false, cond, List, ℕ, ◌+◌, ◌<◌, ◌≤◌, length}
 use Rattle.std.proofs.Common.{sym, ap, ◌∙◌}
 use Rattle.std.proofs.Math.Option.{Option, none, some}
-use Rattle.common.specs.Laws.Tests.{clash}
+use Rattle.common.proofs.Laws.Tests.{clash}
 use Rattle.grammar.specs.Reading.Shapes.{shape_of}
 use Rattle.grammar.specs.Laws.Runs.{line_at, line_end}
 use Rattle.sources.specs.Texts.{reading, readings}
 use Rattle.sources.specs.Labels.{Site, defines, first}
-use Rattle.sources.specs.Laws.FirstLaws.{ahead, ahead_past, ahead_here, ahead_next}
+use Rattle.sources.proofs.Laws.FirstLaws.{ahead, ahead_past, ahead_here, ahead_next}
 use Rattle.label_table.specs.declared.Found.{Found}
 use Rattle.label_table.specs.Table.{looked, found}
 use Rattle.labels.specs.Locating.{held_by, or_else, located}

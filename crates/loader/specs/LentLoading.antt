@@ -6,16 +6,16 @@ use Rattle.std.proofs.Math.Bool.{false, not}
 use borrow.Author.Tests.{eqb-true, eqb-false, eq-eqb, ne_eqb, not-true, not-false}
 use Rattle.std.proofs.Math.ListN.{length}
 use Rattle.common.specs.Answers as answer
-use Rattle.common.specs.Laws.Tests.{both, clash}
+use Rattle.common.proofs.Laws.Tests.{both, clash}
 use Rattle.common.specs.Tables.{first_of}
 use Rattle.rules.specs.Compartments.{numbers}
 use Rattle.rules.specs.State.{Processor, State}
 use Rattle.rules.specs.Checks.{lengths_differ}
 use Rattle.rules.specs.Laws.Tested.{same_lengths}
-use Rattle.rules.specs.Laws.TestedRows.{lengths_row}
+use Rattle.rules.proofs.Laws.TestedRows.{lengths_row}
 use Rattle.rules.specs.Images.{size_in, entry_in, words_of, regs_of, load_checks, load_verdict, fresh, blank, loaded, not_loaded, load, Loaded}
 use Rattle.rules.specs.Rows.{Row, fresh_rows, LentStepped, lent_load}
-use Rattle.rules.specs.Theorems.Rows.{lent_load_lem, load_18}
+use Rattle.rules.proofs.Theorems.Rows.{lent_load_lem, load_18}
 use Rattle.images.specs.Filling.{length_fields}
 use Rattle.form.specs.Form.{lengths_by}
 use Rattle.rows.specs.Views.{table}

@@ -7,12 +7,12 @@ use borrow.Author.Tests.{eqb-true, not-true, not-false}
 use Rattle.std.proofs.Math.Dec.{eqb}
 use Rattle.std.proofs.Math.ListN.{length}
 use Rattle.common.specs.Answers as answer
-use Rattle.common.specs.Laws.CheckLaws.{cond_same}
+use Rattle.common.proofs.Laws.CheckLaws.{cond_same}
 use Rattle.common.specs.Tables.{first_of}
 use Rattle.rules.specs.Compartments.{empty, service_numbers}
 use Rattle.rules.specs.State.{Processor, State}
 use Rattle.rules.specs.Laws.Tested.{same_lengths}
-use Rattle.rules.specs.Laws.TestedRows.{lengths_row}
+use Rattle.rules.proofs.Laws.TestedRows.{lengths_row}
 use Rattle.rules.specs.Images.{fields, size_in, entry_in, regs_of, image_verdict, load_checks, load_verdict, fresh, blank, over, loaded, not_loaded, load}
 use Rattle.images.specs.Accepted.{load_accepted}
 use Rattle.images.specs.Filling.{length_fields, replicate_more}

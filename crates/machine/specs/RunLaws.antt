@@ -8,16 +8,16 @@ use Rattle.common.specs.Answers as answer
 use Rattle.rules.specs.Compartments.{numbers}
 use Rattle.rules.specs.State.{State, in_memory, has_owner, owner_at, jumpers_at, writers_at, owns, may_jump, may_store}
 use Rattle.rules.specs.Laws.Tested.{formed}
-use Rattle.rules.specs.Laws.TestedRows.{if_formed}
+use Rattle.rules.proofs.Laws.TestedRows.{if_formed}
 use Rattle.rules.specs.Step.{Stepped, step}
 use Rattle.rules.specs.Run.{Ran, run}
 use Rattle.rules.specs.Counts.{address_count, owned_count, jump_count, store_count}
 use Rattle.rules.specs.Rows.{Row, counts_of, moved, LentStepped, lent_step, LentRan, lent_run}
 use Rattle.rules.specs.Laws.RowLaws.{none_moved, settled}
-use Rattle.rules.specs.Theorems.Rows.{step_14, step_18, lent_step_lem, length_stepped, stopped_rows, lent_goes_on, lent_ends, told as ran-told, same_run}
-use Rattle.rules.specs.Theorems.Rest.{step_keeps_rest}
-use Rattle.rules.specs.Theorems.Formed.{step_formed}
-use Rattle.rules.specs.Laws.FormLaws.{n_most}
+use Rattle.rules.proofs.Theorems.Rows.{step_14, step_18, lent_step_lem, length_stepped, stopped_rows, lent_goes_on, lent_ends, told as ran-told, same_run}
+use Rattle.rules.proofs.Theorems.Rest.{step_keeps_rest}
+use Rattle.rules.proofs.Theorems.Formed.{step_formed}
+use Rattle.rules.proofs.Laws.FormLaws.{n_most}
 use Rattle.rows.specs.Views.{table}
 use Rattle.rows.specs.TableLaws.{length_table}
 use Rattle.moves.specs.declared.Move.{Move}

@@ -6,21 +6,21 @@ use borrow.Author.Tests.{lt-ltb, le-ltb, le-leb, ne_eqb, eqb-true, eqb-false, le
 use Rattle.common.specs.Answers as answer
 use Rattle.common.specs.Opcodes as op
 use Rattle.common.specs.Words.{Decoded, decode}
-use Rattle.common.specs.Laws.WordLaws.{decoded_small, rd_small}
+use Rattle.common.proofs.Laws.WordLaws.{decoded_small, rd_small}
 use Rattle.common.specs.Instructions.{reg, plus, arithmetic, pc_after, regs_after, words_after, jumps}
 use Rattle.common.specs.Services.{is_service_number}
-use Rattle.common.specs.Laws.CheckLaws.{cond_same}
+use Rattle.common.proofs.Laws.CheckLaws.{cond_same}
 use Rattle.rules.specs.State.{State, in_memory, has_owner, owner_at, jumpers_at, writers_at, readers_at, owns, may_jump, may_store, reads}
 use Rattle.rules.specs.State as rules
 use Rattle.rules.specs.Checks.{instruction_at, verdict}
 use Rattle.rules.specs.Laws.Tested.{formed, bad_owner, arrives, store_verdict, load_verdict, instruction_verdict, word_verdict, tested}
-use Rattle.rules.specs.Laws.TestedRows.{verdict_tested}
+use Rattle.rules.proofs.Laws.TestedRows.{verdict_tested}
 use Rattle.rules.specs.Step.{ran_instruction, commit, step}
 use Rattle.memory.specs.Places.{put_reg, put_word}
 use Rattle.rights.specs.Rights.{free, may_use}
 use Rattle.rights.specs.RightsLaws.{free_below}
 use Rattle.rights.specs.Arrivals.{prev_of, jumped_of, own_prev, own_still, leapt_prev, leapt_jumped}
-use Rattle.rules.specs.Laws.FormLaws.{numbers_good}
+use Rattle.rules.proofs.Laws.FormLaws.{numbers_good}
 use Rattle.moves.specs.declared.Move.{Move}
 use Rattle.moves.specs.Moves.{no_register, nowhere, arrives_at, may_read, load_move, store_move, bnz_move, instruction_move, word_move, move_of}
 

@@ -6,9 +6,9 @@ use Rattle.std.proofs.Math.Bool.{or-true}
 use native.Mathlib.Omega.{arith}
 use borrow.Author.Tests.{ltb-true, ltb-false, le-leb, eq-eqb, ne_eqb, not-true, not-false}
 use Rattle.common.specs.Answers as answer
-use Rattle.common.specs.Laws.Tests.{NoneOf, past}
+use Rattle.common.proofs.Laws.Tests.{NoneOf, past}
 use Rattle.common.specs.Words.{Decoded, none as no_word, decode, op_of, a_of, b_of, low_of}
-use Rattle.common.specs.Laws.WordLaws.{rd_small as register}
+use Rattle.common.proofs.Laws.WordLaws.{rd_small as register}
 use Rattle.common.specs.Instructions.{plus, arithmetic}
 use Rattle.rules.specs.Compartments.{member}
 use Rattle.rights.specs.Rights.{free}

@@ -2,5 +2,3 @@
 pub mod Text
 pub mod Outcome
 -- ---- what is proved of it
-pub mod Theorems
-pub mod Examples

@@ -16,8 +16,8 @@ use Rattle.rules.specs.State.{State}
 use Rattle.rules.specs.Counts.{widest}
 use Rattle.rules.specs.Rows as rows
 use Rattle.rules.specs.Laws.RowLaws.{length_rows}
-use Rattle.rules.specs.Theorems.Rows.{told, Right, lent_load_lem, same_run}
-use Rattle.rules.specs.BothMachines.LoadedRows.{rows_right}
+use Rattle.rules.proofs.Theorems.Rows.{told, Right, lent_load_lem, same_run}
+use Rattle.rules.proofs.BothMachines.LoadedRows.{rows_right}
 use Rattle.rows.specs.Views.{table}
 use Rattle.machine.specs.declared.Ran.{Ran}
 use Rattle.machine.specs.Views.{state_of, ran_of}
@@ -25,8 +25,8 @@ use Rattle.loader.specs.declared.Loaded.{Loaded}
 use Rattle.report.specs.Wholes.{widest_whole}
 use Rattle.printed.specs.Text.{Line, first_line, Row, row_lines, refused_line, Outcome, refused, text}
 use Rattle.printed.specs.Outcome.{budget, memories, line_of, row_of, rows_from, ran_outcome, load_outcome, outcome, ended_by, status, printed_in, print}
-use Rattle.printed.specs.Theorems.Lengths.{longest}
-use Rattle.printed.specs.Theorems.Numbers.{next_most}
+use Rattle.printed.proofs.Theorems.Lengths.{longest}
+use Rattle.printed.proofs.Theorems.Numbers.{next_most}
 use Rattle.printer.specs.Views.{line, lines_of, ran_by, Meant, meant_of}
 use Rattle.printer.specs.Made as own
 

@@ -6,16 +6,16 @@ use Rattle.std.proofs.Math.Bool.{true, false, cond, not, or-false}
 use mathlib.Core.List.{List, []}
 use borrow.Author.Tests.{lt-ltb, eq-eqb, ne_eqb}
 use Rattle.std.proofs.Math.Dec.{ltb}
-use Rattle.common.specs.Laws.CheckLaws.{cond_same}
+use Rattle.common.proofs.Laws.CheckLaws.{cond_same}
 use Rattle.common.specs.Instructions.{reg}
 use Rattle.common.specs.Services.{isolate, is_service}
 use Rattle.common.specs.AddressSets.{Pair, set_at, in_set, within}
-use Rattle.common.specs.Laws.AddressSetLaws.{within_if}
+use Rattle.common.proofs.Laws.AddressSetLaws.{within_if}
 use Rattle.rules.specs.Compartments.{member, empty}
 use Rattle.rules.specs.Laws.CompartmentLaws.{member_empty}
 use Rattle.rules.specs.State.{State, in_memory, has_owner, owner_at, jumpers_at, writers_at, owns, may_jump, may_store, may_read}
 use Rattle.rules.specs.Checks.{set_a, set_j, set_s, sets_within, returns}
-use Rattle.rules.specs.Laws.JoinLaws.{read_strict}
+use Rattle.rules.proofs.Laws.JoinLaws.{read_strict}
 use Rattle.reach.specs.Called.{asked, reaches}
 
 -- ---- owners and sets, apart from the rest of the state

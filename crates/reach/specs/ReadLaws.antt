@@ -5,13 +5,13 @@ use Rattle.std.proofs.Common.{◌∙◌, leb-true}
 use Prim.Native.Nat.{ℕ, suc, ◌+◌, ◌-◌, ◌*◌, ◌≤◌}
 use native.Mathlib.Omega.{arith}
 use Rattle.std.proofs.Math.ListN.{get_or}
-use Rattle.common.specs.Laws.Tests.{both}
+use Rattle.common.proofs.Laws.Tests.{both}
 use Rattle.common.specs.Instructions.{reg}
 use Rattle.common.specs.AddressSets.{inside, good_set, all_from}
-use Rattle.common.specs.Laws.Meaning.{good_free}
+use Rattle.common.proofs.Laws.Meaning.{good_free}
 use Rattle.rules.specs.State.{State, in_memory, has_owner, owner_at, readers_at, owns, may_read, reads}
 use Rattle.rules.specs.Checks.{good_sets}
-use Rattle.rules.specs.Theorems.Sheet.{free}
+use Rattle.rules.proofs.Theorems.Sheet.{free}
 use Rattle.address_sets.specs.SetLaws.{in_order}
 use Rattle.reach.specs.Called.{reading, reaches}
 use Rattle.reach.specs.ReachLaws.{seen, reaches_read}

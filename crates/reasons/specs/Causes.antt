@@ -7,7 +7,7 @@ use Rattle.common.specs.AddressSets.{inside, ordered, in_set, within}
 use Rattle.rules.specs.Compartments.{member, empty}
 use Rattle.rules.specs.State.{State, first_number, in_memory, owner_at, jumpers_at, owns, reads}
 use Rattle.rules.specs.Checks.{lengths_differ, owner, instruction_at, named, good_in}
-use Rattle.rules.specs.Theorems.Worded.{AtAdd}
+use Rattle.rules.proofs.Theorems.Worded.{AtAdd}
 use Rattle.reasons.specs.Why.{Why, owner_or, stray_bits, word_at, pointer, set_by, extent, may_give, outside, disordered, unreadable, not_own, taken, lengths, size, numbering, number, seat}
 
 module _ (s : State) (w : Why) where

@@ -6,7 +6,7 @@ use Rattle.std.proofs.Math.Bool.{true, false, and-false}
 use borrow.Author.Tests.{lt-ltb, ltb-false, le-leb, lt-leb, not-true, not-false}
 use Rattle.common.specs.Instructions.{bit}
 use Rattle.common.specs.Services.{isolate, service_count, is_service, service_at}
-use Rattle.common.specs.Laws.ServiceLaws.{is_service_lem, is_fourth}
+use Rattle.common.proofs.Laws.ServiceLaws.{is_service_lem, is_fourth}
 use Rattle.rules.specs.Compartments.{member, insert, size}
 use Rattle.rules.specs.Laws.CompartmentLaws.{eqb_swap, member_empty, bit_most, size_most}
 use Rattle.rules.specs.State.{State, in_memory, has_owner, owner_at, jumpers_at, writers_at, owns, may_jump, may_store}

@@ -7,13 +7,13 @@ use Prim.Native.Nat.{ℕ, zero, suc, ◌+◌, ◌-◌, ◌≤◌, ◌<◌, min}
 use native.Mathlib.Omega.{arith}
 use Rattle.common.specs.Instructions.{bit}
 use Rattle.common.specs.Services.{isolate, service_count, is_service}
-use Rattle.common.specs.Laws.ServiceLaws.{no_service}
+use Rattle.common.proofs.Laws.ServiceLaws.{no_service}
 use Rattle.paper.specs.Abstract as paper
 use Rattle.rules.specs.Laws.CompartmentLaws.{member_empty}
 use Rattle.rules.specs.State.{State, in_memory, has_owner, jumpers_at, writers_at, owns, may_jump, may_store}
 use Rattle.rules.specs.Laws.Tested.{sized}
-use Rattle.rules.specs.Laws.FormLaws.{is_sized}
-use Rattle.rules.specs.BothMachines.Match.{Match}
+use Rattle.rules.proofs.Laws.FormLaws.{is_sized}
+use Rattle.rules.proofs.BothMachines.Match.{Match}
 use Rattle.rules.specs.Counts.{count_from, address_count, owned_count, jump_count, store_count}
 use Rattle.rules.specs.Laws.CountLaws.{count_same}
 

@@ -6,7 +6,7 @@ use Rattle.std.proofs.Math.Decide.{ℕ_discrete}
 use Rattle.std.proofs.Math.Seq.{set_out}
 use Rattle.rules.specs.Rows.{Row, no_row, moved_by, rows_from}
 use Rattle.rules.specs.Laws.RowLaws.{moved_same, moved_modulo, lost, gained, settled, lost_none, gained_none, length_rows, row_of_lem}
-use Rattle.common.specs.Laws.Tests.{both}
+use Rattle.common.proofs.Laws.Tests.{both}
 use Rattle.rows.specs.Views.{row_of, table}
 
 -- ---- one count

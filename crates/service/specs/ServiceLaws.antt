@@ -7,15 +7,15 @@ use borrow.Author.Tests.{le-ltb, eq-eqb, ne_eqb, eqb-true, eqb-false}
 use Rattle.common.specs.Answers as answer
 use Rattle.common.specs.Instructions.{reg, plus}
 use Rattle.common.specs.Services.{isolate, add_jump_target, add_store_target, add_read_target, service_count, is_service, service_at, is_service_number}
-use Rattle.common.specs.Laws.ServiceLaws.{service_number, is_service_lem, other_place}
-use Rattle.common.specs.Laws.Tests.{both, clash}
+use Rattle.common.proofs.Laws.ServiceLaws.{service_number, is_service_lem, other_place}
+use Rattle.common.proofs.Laws.Tests.{both, clash}
 use Rattle.rules.specs.Compartments.{member, empty}
 use Rattle.rules.specs.State.{Processor, State, in_memory, has_owner, owner_at, jumpers_at, writers_at, readers_at, owns, may_jump, may_store, may_read, reads}
 use Rattle.rules.specs.Checks.{set_a, set_j, set_s, set_r, verdict, good_sets, sets_within, returns}
 use Rattle.rules.specs.Laws.Tested.{seated, formed, bad_owner, arrives, isolate_verdict, add_verdict, service_verdict, tested}
-use Rattle.rules.specs.Laws.TestedRows.{verdict_tested}
+use Rattle.rules.proofs.Laws.TestedRows.{verdict_tested}
 use Rattle.rules.specs.Step.{Stepped, owned, joined, joined_services, join_at, isolated, jump_added, store_added, read_added, ran_service, commit, step}
-use Rattle.rules.specs.Laws.FormLaws.{is_formed, is_numbered}
+use Rattle.rules.proofs.Laws.FormLaws.{is_formed, is_numbered}
 use Rattle.monitor.specs.Outcomes.{called, isolating, Adding, adding}
 use Rattle.service.specs.Served.{isolated_by, added_by, grown, Serving, call_of, add_of, isolates, adds_jump, adds_store, adds_read, serving}
 

@@ -6,20 +6,20 @@ use borrow.Author.Tests.{eqb-true, eqb-false, eq-eqb, ne_eqb}
 use Rattle.common.specs.Answers as answer
 use Rattle.common.specs.Instructions.{reg, plus}
 use Rattle.common.specs.Services.{isolate, add_jump_target, add_store_target, add_read_target, service_count}
-use Rattle.common.specs.Laws.ServiceLaws.{service_count_lem}
-use Rattle.common.specs.Laws.Tests.{both, clash}
+use Rattle.common.proofs.Laws.ServiceLaws.{service_count_lem}
+use Rattle.common.proofs.Laws.Tests.{both, clash}
 use Rattle.rules.specs.Compartments.{member, empty}
 use Rattle.rules.specs.State.{State, in_memory}
 use Rattle.rules.specs.Checks.{set_a, set_j, set_s, verdict}
 use Rattle.rules.specs.Laws.Tested.{formed, isolate_verdict, add_verdict, service_verdict}
-use Rattle.rules.specs.Laws.FormLaws.{n_most}
-use Rattle.rules.specs.Laws.Passed.{Passes, passes, Adds, add_inside, Isolates, isolate_passed}
+use Rattle.rules.proofs.Laws.FormLaws.{n_most}
+use Rattle.rules.proofs.Laws.Passed.{Passes, passes, Adds, add_inside, Isolates, isolate_passed}
 use Rattle.rules.specs.Laws.CountLaws.{differing, differing_most}
 use Rattle.rules.specs.Laws.RowLaws.{settled, lost_none, gained_none}
-use Rattle.rules.specs.Laws.ServiceRows.{isolate_rows, jump_rows, store_rows, read_rows}
+use Rattle.rules.proofs.Laws.ServiceRows.{isolate_rows, jump_rows, store_rows, read_rows}
 use Rattle.rules.specs.Rows.{Row, moved}
 use Rattle.rules.specs.Step.{Stepped, owned, joined, joined_services, join_at, isolated, jump_added, store_added, read_added, ran_service, commit, step}
-use Rattle.rules.specs.Theorems.Formed.{step_formed}
+use Rattle.rules.proofs.Theorems.Formed.{step_formed}
 use Rattle.monitor.specs.Outcomes.{Adding, adding, isolating, joins_at}
 use Rattle.service.specs.Served.{isolated_by, added_by, Serving, call_of, add_of, isolates, adds_jump, adds_store, adds_read, nowhere, serving}
 use Rattle.service.specs.ServiceLaws.{arrives_by, leaves, not_inside, same_isolate, same_add, serving_steps}

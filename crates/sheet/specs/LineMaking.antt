@@ -23,7 +23,7 @@ use Rattle.printer.specs.Made.{made_text}
 use Rattle.sheets.specs.Lines.{members, target_writers, Entry, refused, ran, ran_entry, load_entry, entry, numbers_text, writers_text, line_text}
 use Rattle.sheets.specs.Totals.{Note, note_of}
 use Rattle.sheets.specs.Told as told
-use Rattle.sheets.specs.Theorems.Lengths.{writers_asked, writers_most}
+use Rattle.sheets.proofs.Theorems.Lengths.{writers_asked, writers_most}
 use Rattle.sheet.specs.Views.{Meant, meant_of}
 
 -- ---- the line of a run

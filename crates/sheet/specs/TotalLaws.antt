@@ -7,13 +7,13 @@ use native.Mathlib.Omega.{arith}
 use borrow.Author.Tests.{eq-eqb, ne_eqb, le-leb, lt-leb}
 use Rattle.std.proofs.Math.Seq.{set_out}
 use Rattle.common.specs.Instructions.{bit, plus}
-use Rattle.common.specs.Laws.Tests.{clash}
+use Rattle.common.proofs.Laws.Tests.{clash}
 use Rattle.numerals.specs.Bytes.{bytes}
 use Rattle.numerals.specs.Writing.{put}
 use Rattle.text.specs.Puts.{put_of}
 use Rattle.printed.specs.Text.{field}
 use Rattle.sheets.specs.Totals.{Totals, halted, used, is_stop, stops_from, stops, stops_text, totals_text}
-use Rattle.sheets.specs.Theorems.Lengths.{two_digits}
+use Rattle.sheets.proofs.Theorems.Lengths.{two_digits}
 use Rattle.sheet.specs.LineLaws.{Partly, further, all_put}
 
 -- ---- which answers are stops

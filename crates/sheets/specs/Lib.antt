@@ -3,6 +3,3 @@ pub mod Lines
 pub mod Totals
 pub mod Told
 -- ---- laws that the code cites, and what is proved of the sheet
-pub mod Laws
-pub mod Theorems
-pub mod Examples

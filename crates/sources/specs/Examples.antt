@@ -1,3 +1,2 @@
 -- The folder Examples: whole texts and listings by computation.
 pub mod Samples
-pub mod ListingSamples

@@ -7,6 +7,4 @@ pub mod Meaning
 pub mod Listing
 -- ---- what is proved of it
 pub mod Laws
-pub mod Theorems
-pub mod Listings
 pub mod Examples

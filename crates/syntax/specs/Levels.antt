@@ -13,8 +13,8 @@ use Rattle.grammar.specs.Reading.Reader.{Answer, got, deep, or_fault}
 use Rattle.grammar.specs.Reading.Kinds as kind
 use Rattle.grammar.specs.Reading.Kinds.{kind_of}
 use Rattle.grammar.specs.Reading.Shapes.{numbered, lone, outside, closed, level}
-use Rattle.grammar.specs.Laws.Answers.{All}
-use Rattle.grammar.specs.Laws.Tables.{picks}
+use Rattle.grammar.proofs.Laws.Answers.{All}
+use Rattle.grammar.proofs.Laws.Tables.{picks}
 
 abbrev pub leveled : ℕ → ℕ → Answer ℕ
 leveled k d = cond (eqb k (kind_of left) && eqb d deepest) deep (or_fault (level k d))

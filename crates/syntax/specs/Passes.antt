@@ -11,10 +11,10 @@ use Rattle.grammar.specs.Reading.Reader.{Answer, got, fault, deep, or_fault, the
 use Rattle.grammar.specs.Reading.Kinds as kind
 use Rattle.grammar.specs.Reading.Kinds.{kind_of}
 use Rattle.grammar.specs.Reading.Shapes.{numbered, no, rows, next_of, level, Control, at, step, ending, shape_from, shape, shape_of}
-use Rattle.grammar.specs.Laws.Answers.{All}
+use Rattle.grammar.proofs.Laws.Answers.{All}
 use Rattle.grammar.specs.Laws.Runs.{line_at}
 use Rattle.grammar.specs.Reading.Lexer.{tokens}
-use Rattle.grammar.specs.Laws.ShapeLaws.{shapes}
+use Rattle.grammar.proofs.Laws.ShapeLaws.{shapes}
 use Rattle.sources.specs.Texts.{reading}
 use Rattle.tokens.specs.Streams.{stream, token_at, token_in}
 use Rattle.tokens.specs.StreamLaws.{There, there, stream_ends, stream_line}

@@ -2,11 +2,11 @@
 use Rattle.std.specs.Prelude.{◌≡◌, Bool, true, ◌&&◌, ◌||◌, List, [], ◌≢◌, ◌⊎◌, ℕ, ◌<◌, eqb, ltb, get_or}
 use Rattle.std.proofs.Math.Path.{refl}
 use Rattle.std.proofs.Common.{ap, ◌∙◌, inl, inr, ⊎_elim, arith, eqb-true, ltb-true}
-use Rattle.common.specs.Laws.Tests.{both}
+use Rattle.common.proofs.Laws.Tests.{both}
 use Rattle.grammar.specs.Tokens.{Token, mnemonic, register, name, number, comma, colon, plus, minus, star, dot, left, right, stray, Nop, Halt, Const, Bnz, one, two, three}
 use Rattle.grammar.specs.Reading.Kinds.{kind_of}
 use Rattle.grammar.specs.Reading.Shapes.{no, rows, next_of}
-use Rattle.grammar.specs.Laws.Tables.{either, all_below, below}
+use Rattle.grammar.proofs.Laws.Tables.{either, all_below, below}
 
 -- as the code reads it
 abbrev pub entry : List (List ℕ) → ℕ → ℕ → ℕ

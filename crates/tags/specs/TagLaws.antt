@@ -10,14 +10,14 @@ use native.Mathlib.Omega.{arith}
 use borrow.Author.Tests.{not-true, not-false, eq-eqb, le-leb, lt-ltb, leb-true, ltb-true, ltb-false}
 use Rattle.std.proofs.Math.ListN.{get_or}
 use Rattle.std.proofs.Math.Seq.{set_out}
-use Rattle.common.specs.Laws.Tests.{both, bool_ext}
+use Rattle.common.proofs.Laws.Tests.{both, bool_ext}
 use Rattle.common.specs.Instructions.{bit}
 use Rattle.common.specs.Services.{isolate, service_count}
 use Rattle.common.specs.AddressSets.{Pair, pairs_at, set_at, in_pair, in_set}
 use Rattle.rules.specs.Compartments.{insert}
 use Rattle.rules.specs.Counts.{count_from}
 use Rattle.rules.specs.Laws.CountLaws.{differs, differing, differing_none, differing_most, differing_set, differing_then}
-use Rattle.rules.specs.Laws.TagLaws.{beyond}
+use Rattle.rules.proofs.Laws.TagLaws.{beyond}
 use Rattle.rules.specs.Step.{map_from, below}
 use Rattle.address_sets.specs.SetLaws.{pair_at}
 

@@ -5,10 +5,10 @@ use Rattle.std.proofs.Common.{◌∙◌, inl, inr, arith}
 use Rattle.std.proofs.Math.Bool.{true, false}
 use borrow.Author.Tests.{eq-eqb, ne_eqb, eqb-true, le-leb, lt-leb, leb-true, lt-ltb, le-ltb}
 use Rattle.std.proofs.Math.Dec.{ltb}
-use Rattle.common.specs.Laws.Tests.{both}
+use Rattle.common.proofs.Laws.Tests.{both}
 use Rattle.grammar.specs.Spelling.{between, digit, capital, small, in_word, lower, hex, digit_value, signs}
 use Rattle.grammar.specs.Reading.Lexer.{find}
-use Rattle.grammar.specs.Laws.Tables.{either}
+use Rattle.grammar.proofs.Laws.Tables.{either}
 use Rattle.grammar.specs.Reading.Kinds.{kind_of}
 use Rattle.tokens.specs.Arms.{Rest, rest_away}
 use Rattle.tokens.specs.Streams.{ends, or_stray}

@@ -3,11 +3,11 @@ use Rattle.std.specs.Prelude.{◌≡◌, refl, Bool, true, false, cond, ◌&&◌
 use Rattle.std.proofs.Common.{sym, ap, ◌∙◌, arith, eqb-true, eq-eqb, ne_eqb, ltb-true, ltb-false}
 use Rattle.std.proofs.Math.Option.{Option, none, some}
 use Rattle.std.proofs.lemmas.Bool.{eqb-false}
-use Rattle.common.specs.Laws.Tests.{both, bool_ext}
+use Rattle.common.proofs.Laws.Tests.{both, bool_ext}
 use Rattle.grammar.specs.Tokens.{Token}
 use Rattle.grammar.specs.Spelling.{between, every, Row, words, lower, in_word}
 use Rattle.grammar.specs.Reading.Lexer.{same, find}
-use Rattle.grammar.specs.Laws.Tables.{same_true, same_refl, each}
+use Rattle.grammar.proofs.Laws.Tables.{same_true, same_refl, each}
 use Rattle.tokens.specs.Bytes.{bounds, inside, lower_bounds}
 use Rattle.tokens.specs.Worth.{worth, worth_map, held, held_under, held_over, by_limit}
 

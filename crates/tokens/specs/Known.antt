@@ -3,10 +3,10 @@ use Rattle.std.specs.Prelude.{◌≡◌, refl, Bool, true, false, cond, ◌&&◌
 use Rattle.std.proofs.Common.{sym, ap, ◌∙◌, arith, eqb-true, ne_eqb, ltb-true, take-append-drop}
 use Rattle.std.proofs.Math.Option.{Option, none, some}
 use Rattle.std.proofs.lemmas.Bool.{eqb-false}
-use Rattle.common.specs.Laws.Tests.{both}
+use Rattle.common.proofs.Laws.Tests.{both}
 use Rattle.grammar.specs.Tokens.{Token}
 use Rattle.grammar.specs.Spelling.{between, Row, words}
-use Rattle.grammar.specs.Laws.Tables.{each}
+use Rattle.grammar.proofs.Laws.Tables.{each}
 use Rattle.grammar.specs.Reading.Kinds.{kind_of, number_of}
 use Rattle.tokens.specs.Bytes.{bounds, inside, under, over}
 use Rattle.tokens.specs.Worth.{worth}

@@ -2,7 +2,7 @@
 use Rattle.std.specs.Prelude.{◌≡◌, refl, Bool, true, false, List, [], ◌∷◌, ℕ, ◌+◌, ◌<◌, ◌≤◌, eqb, ltb, length, get_or}
 use Rattle.std.proofs.Common.{sym, ap, ◌∙◌, ltb-true, ltb-false, eq-eqb, ne_eqb}
 use Rattle.std.proofs.Math.ListN.{get_or-eq_default}
-use Rattle.common.specs.Laws.Tests.{clash}
+use Rattle.common.proofs.Laws.Tests.{clash}
 use Rattle.grammar.specs.Spelling.{digit, capital, small, in_word}
 use Rattle.grammar.specs.Reading.Lexer.{same}
 use Rattle.grammar.specs.Laws.Runs.{name_at, reach_none, reach_end, run_more, run_empty}

@@ -5,11 +5,11 @@ use Rattle.std.proofs.Common.{◌∙◌, inl, inr, arith, eqb-true, lt-ltb, le-l
 use Rattle.std.proofs.Math.Bool.{true, false, cond, not}
 use Rattle.std.proofs.Math.Option.{Option, none, some}
 use Rattle.std.proofs.Math.ListN.{length}
-use Rattle.common.specs.Laws.Tests.{clash}
+use Rattle.common.proofs.Laws.Tests.{clash}
 use Rattle.grammar.specs.Tokens as grammar
 use Rattle.grammar.specs.Spelling.{digit, capital, small, in_word, lower, words, signs, Row, digit_first}
 use Rattle.grammar.specs.Reading.Lexer.{find, or_label, number_of_lem, token_of}
-use Rattle.grammar.specs.Laws.Tables.{either, find_at, each, at_each}
+use Rattle.grammar.proofs.Laws.Tables.{either, find_at, each, at_each}
 use Rattle.grammar.specs.Laws.Runs.{leading, name_at, line_of, line_end, reach_more, reach_none, reach_end}
 use Rattle.grammar.specs.Reading.Kinds.{kind_of, number_of}
 use Rattle.tokens.specs.KindLaws.{some_kind}

@@ -10,12 +10,12 @@ use native.Mathlib.Omega.{arith}
 use borrow.Author.Tests.{eqb-true, ltb-true, ltb-false, not-true, not-false}
 use Rattle.std.proofs.Math.Dec.{ltb}
 use Rattle.std.proofs.Math.ListN.{length, drop, length-drop}
-use Rattle.common.specs.Laws.Tests.{clash, both}
+use Rattle.common.proofs.Laws.Tests.{clash, both}
 use Rattle.grammar.specs.Tokens as grammar
 use Rattle.grammar.specs.Spelling.{digit, in_word, blank, lower, hex, every, value, Row, words, signs, digit_first, Apart, uncommented}
 use Rattle.grammar.specs.Reading.Lexer.{find, hexadecimal_of, number_of_lem, or_label, token_of, class, marked, put, lex, tokens}
-use Rattle.grammar.specs.Laws.Tables.{find_at, each, at_each}
-use Rattle.grammar.specs.Laws.LexLaws.{next_blank, next_word}
+use Rattle.grammar.proofs.Laws.Tables.{find_at, each, at_each}
+use Rattle.grammar.proofs.Laws.LexLaws.{next_blank, next_word}
 use Rattle.grammar.specs.Laws.Runs.{leading, name_at, line_of, line_at, front, reach_more}
 use Rattle.grammar.specs.Reading.Kinds.{kind_of, number_of}
 use Rattle.tokens.specs.KindLaws.{name_of, some_kind}

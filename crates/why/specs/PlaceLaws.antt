@@ -10,8 +10,8 @@ use Rattle.std.proofs.Math.Dec.{ltb}
 use Rattle.common.specs.Instructions.{reg}
 use Rattle.common.specs.Services.{isolate, is_service, service_at}
 use Rattle.common.specs.Words.{row, op_of, a_of, b_of, low_of, pack, Decoded, instruction, decode}
-use Rattle.common.specs.Laws.WordLaws.{row_small, decoded_small}
-use Rattle.common.specs.Laws.ServiceLaws.{service_range}
+use Rattle.common.proofs.Laws.WordLaws.{row_small, decoded_small}
+use Rattle.common.proofs.Laws.ServiceLaws.{service_range}
 use Rattle.rules.specs.State.{State, in_memory, has_owner, owner_at, owns}
 use Rattle.instructions.specs.Masks.{used_of, fields_of}
 use Rattle.reach.specs.Called.{called, asked}

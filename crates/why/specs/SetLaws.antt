@@ -9,7 +9,7 @@ use borrow.Author.Tests.{lt-ltb, le-ltb, le-leb, lt-leb, leb-true, not-true, not
 use Rattle.std.proofs.Math.ListN.{get_or}
 use Rattle.common.specs.Instructions.{reg}
 use Rattle.common.specs.AddressSets.{Pair, set_at, inside, ordered, good_set, within}
-use Rattle.common.specs.Laws.Tests.{both, clash}
+use Rattle.common.proofs.Laws.Tests.{both, clash}
 use Rattle.rules.specs.State.{State, in_memory, has_owner, owner_at, jumpers_at, writers_at, readers_at, owns, may_jump, may_store, may_read, reads}
 use Rattle.rules.specs.Checks.{good_in}
 use Rattle.address_sets.specs.SetLaws.{in_order}

@@ -13,8 +13,8 @@ use Rattle.rules.specs.State.{State, in_memory, has_owner, owner_at, jumpers_at,
 use Rattle.rules.specs.Checks.{verdict, good_sets, sets_within, returns}
 use Rattle.rules.specs.Step.{Stepped, step}
 use Rattle.rules.specs.Laws.Tested.{formed, bad_owner, arrives, isolate_verdict, add_verdict, service_verdict, tested}
-use Rattle.rules.specs.Laws.TestedRows.{verdict_tested}
-use Rattle.rules.specs.Laws.FormLaws.{n_most, numbers_good}
+use Rattle.rules.proofs.Laws.TestedRows.{verdict_tested}
+use Rattle.rules.proofs.Laws.FormLaws.{n_most, numbers_good}
 use Rattle.moves.specs.Applied.{move_at, move_stops, move_runs}
 use Rattle.reach.specs.Called.{called}
 use Rattle.reach.specs.ReachLaws.{same_owns}

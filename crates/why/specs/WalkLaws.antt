@@ -8,7 +8,7 @@ use Rattle.std.proofs.Math.Numerals.{add-one}
 use native.Mathlib.Omega.{arith}
 use Rattle.std.proofs.Math.Decide.{ℕ_discrete}
 use Rattle.common.specs.AddressSets.{Pair, pairs_at, set_at, inside, all_from}
-use Rattle.common.specs.Laws.Tests.{both, clash}
+use Rattle.common.proofs.Laws.Tests.{both, clash}
 use Rattle.address_sets.specs.SetLaws.{pair_at, Every}
 use Rattle.reasons.specs.First.{first_not, first_pair}
 use Rattle.reasons.specs.Laws.FirstLaws.{First, first_fails, pairs_length}

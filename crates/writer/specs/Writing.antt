@@ -9,7 +9,7 @@ use Rattle.std.proofs.Math.ListN.{take, length-append}
 use Rattle.std.proofs.Math.Seq.{sets}
 use Rattle.common.specs.Answers as answer
 use Rattle.common.specs.Tables.{first_of}
-use Rattle.common.specs.Laws.Tests.{both}
+use Rattle.common.proofs.Laws.Tests.{both}
 use Rattle.rules.specs.Images.{section, listed, image_bytes, over, write_checks, write_verdict, write}
 use Rattle.images.specs.Accepted.{passed}
 use Rattle.images.specs.Listed.{listed_take}

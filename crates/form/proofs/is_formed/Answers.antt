@@ -1,6 +1,6 @@
 -- `is_formed`, test by test.
 use Rattle.form.specs.Form.{formed_by}
-use Rattle.common.specs.Laws.Tests.{stops_first, stops_second, stops_third, fourth}
+use Rattle.common.proofs.Laws.Tests.{stops_first, stops_second, stops_third, fourth}
 use Rattle.std.proofs.Common.{ap}
 use Rattle.std.specs.Prelude.{not}
 use Rattle.form.proofs.is_formed.Goals as goal

@@ -1,5 +1,5 @@
 -- Each arm reads its own row of the table.
-use Rattle.common.specs.Laws.Tests.{past}
+use Rattle.common.proofs.Laws.Tests.{past}
 use Rattle.instructions.specs.Masks.{used_of, used_high}
 use Rattle.common.specs.Words.{row}
 use Rattle.instructions.proofs.used.Goals as goal

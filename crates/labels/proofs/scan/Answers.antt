@@ -2,8 +2,8 @@
 use mathlib.Core.Path.{sym}
 use Prim.Native.Nat.{◌-◌}
 use native.Mathlib.Omega.{arith}
-use Rattle.sources.specs.Laws.PlaceLaws.{line_end_within}
-use Rattle.sources.specs.Laws.FirstLaws.{ahead_start}
+use Rattle.sources.proofs.Laws.PlaceLaws.{line_end_within}
+use Rattle.sources.proofs.Laws.FirstLaws.{ahead_start}
 use Rattle.labels.specs.LineLaws.{held_small}
 use Rattle.labels.specs.Scans.{scan_past, scan_here, scan_next}
 use Rattle.labels.proofs.scan.Goals as goal

@@ -5,7 +5,7 @@ use lib.ListN.{length}
 use Rattle.grammar.specs.Laws.Runs.{name_at}
 use Rattle.sources.specs.Texts.{readings}
 use Rattle.sources.specs.Labels.{first}
-use Rattle.sources.specs.Laws.FirstLaws.{ahead}
+use Rattle.sources.proofs.Laws.FirstLaws.{ahead}
 use Rattle.labels.proofs.scan.Given as goal
 
 abbrev pub invariant-loop-at : goal.invariant-loop-at

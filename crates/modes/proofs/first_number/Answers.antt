@@ -1,6 +1,6 @@
 -- One more than the services.
 use Rattle.rules.specs.State.{first_number}
-use Rattle.common.specs.Laws.ServiceLaws.{service_count_lem}
+use Rattle.common.proofs.Laws.ServiceLaws.{service_count_lem}
 use native.Mathlib.Omega.{arith}
 use Rattle.modes.proofs.first_number.Goals as goal
 

@@ -1,6 +1,6 @@
 -- The services' two ends.
 use mathlib.Core.Path.{sym}
-use Rattle.common.specs.Laws.ServiceLaws.{service_count_lem, no_service}
+use Rattle.common.proofs.Laws.ServiceLaws.{service_count_lem, no_service}
 use Rattle.common.specs.Services.{is_service}
 use borrow.Author.Tests.{le-leb}
 use native.Mathlib.Omega.{arith}

@@ -1,6 +1,6 @@
 -- The sets, one after the other, the fourth in strict mode alone.
 use Rattle.reach.specs.ReadLaws.{sets_good}
-use Rattle.common.specs.Laws.Tests.{stops_first, stops_second, stops_third, fourth, unasked, asked}
+use Rattle.common.proofs.Laws.Tests.{stops_first, stops_second, stops_third, fourth, unasked, asked}
 use Rattle.std.proofs.Common.{ap}
 use Rattle.std.specs.Prelude.{not}
 use Rattle.reach.proofs.all_good.Goals as goal

@@ -1,6 +1,6 @@
 -- Each set is within what the caller reaches, by the sets of numbers that count for it; the fourth in strict mode alone.
 use Rattle.reach.specs.ReachLaws.{sets_within_lem}
-use Rattle.common.specs.Laws.Tests.{stops_first, stops_second, stops_third, fourth, unasked, asked}
+use Rattle.common.proofs.Laws.Tests.{stops_first, stops_second, stops_third, fourth, unasked, asked}
 use Rattle.std.proofs.Common.{ap}
 use Rattle.std.specs.Prelude.{not}
 use Rattle.reach.proofs.all_within.Goals as goal

@@ -4,7 +4,7 @@ use native.Mathlib.Omega.{arith}
 use borrow.Author.Tests.{le-ltb, lt-ltb}
 use Rattle.common.specs.Services.{service_at}
 use Rattle.rules.specs.State.{owns, has_owner, owner_at, in_memory}
-use Rattle.common.specs.Laws.ServiceLaws.{service_range}
+use Rattle.common.proofs.Laws.ServiceLaws.{service_range}
 use Rattle.reach.proofs.owns.Goals as goal
 
 pub returns-then-x-n : goal.returns-then-x-n

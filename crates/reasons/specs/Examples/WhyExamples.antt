@@ -7,7 +7,7 @@ use Rattle.common.specs.AddressSets.{pairs_at, set_at, inside, ordered, good_set
 use Rattle.rules.specs.Compartments.{member}
 use Rattle.rules.specs.State.{State, first_number, in_memory, has_owner, owner_at, jumpers_at, writers_at, readers_at, owns, may_jump, may_store, may_read, reads}
 use Rattle.rules.specs.Checks as checks
-use Rattle.rules.specs.Examples.Samples.{image_two}
+use Rattle.rules.proofs.Examples.Samples.{image_two}
 use Rattle.reasons.specs.First.{first_not, first_pair, first_set}
 use Rattle.reasons.specs.Why.{told, owner_or, stray_bits, set_fault, fault_at, bad_set, may_give, wide_set, out_at, return_fault, form_fault, rows, row_of, why}
 

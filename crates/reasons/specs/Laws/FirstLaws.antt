@@ -8,7 +8,7 @@ use Prim.Native.Nat.{ℕ, zero, suc, ◌+◌, ◌-◌, ◌*◌, ◌≤◌, ◌<�
 use Rattle.std.proofs.Math.Decide.{ℕ_discrete}
 use borrow.Author.Tests.{ltb-true, ltb-false, le-leb, lt-ltb}
 use Rattle.common.specs.AddressSets.{Pair, pairs_at, ordered, in_pair, in_set, all_from, within}
-use Rattle.common.specs.Laws.Tests.{both, clash}
+use Rattle.common.proofs.Laws.Tests.{both, clash}
 use Rattle.reasons.specs.First.{first_not, first_pair, first_out, first_disordered, first_set}
 
 -- ---- of the addresses from x on

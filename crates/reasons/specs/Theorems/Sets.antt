@@ -8,8 +8,8 @@ use borrow.Author.Tests.{ltb-true, ltb-false, leb-true, leb-false, eqb-true, not
 use Rattle.std.proofs.Math.Dec.{ltb}
 use Rattle.common.specs.Services.{isolate}
 use Rattle.common.specs.AddressSets.{set_at, inside, ordered, all_from, good_set, in_set, within}
-use Rattle.common.specs.Laws.Tests.{both, clash}
-use Rattle.common.specs.Laws.AddressSetLaws.{within_if}
+use Rattle.common.proofs.Laws.Tests.{both, clash}
+use Rattle.common.proofs.Laws.AddressSetLaws.{within_if}
 use Rattle.rules.specs.State.{State, owns, may_jump, may_store, may_read, reads}
 use Rattle.rules.specs.Checks.{good_in, good_sets, bad_sets, sets_within, not_within}
 use Rattle.reasons.specs.First.{first_set, first_disordered}

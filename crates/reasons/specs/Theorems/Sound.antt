@@ -12,13 +12,13 @@ use Rattle.common.specs.Opcodes as is
 use Rattle.common.specs.Words.{row, op_of, a_of, b_of, low_of, decode}
 use Rattle.common.specs.Services.{isolate, add_jump_target, add_store_target, add_read_target, is_service}
 use Rattle.common.specs.AddressSets.{set_at, pairs_at, is_empty, in_set, within}
-use Rattle.common.specs.Laws.Tests.{both, clash}
-use Rattle.common.specs.Laws.AddressSetLaws.{within_at}
-use Rattle.common.specs.Laws.Meaning.{good_set_iff}
-use Rattle.common.specs.Laws.WordLaws.{Allowed, Decodes, runs, unknown_opcode, stray, decode_0, decode_3, decode_answers}
+use Rattle.common.proofs.Laws.Tests.{both, clash}
+use Rattle.common.proofs.Laws.AddressSetLaws.{within_at}
+use Rattle.common.proofs.Laws.Meaning.{good_set_iff}
+use Rattle.common.proofs.Laws.WordLaws.{Allowed, Decodes, runs, unknown_opcode, stray, decode_0, decode_3, decode_answers}
 use Rattle.rules.specs.Compartments.{member, empty}
 use Rattle.rules.specs.State.{State, first_number, in_memory, owner_at, jumpers_at, owns, reads}
-use Rattle.rules.specs.Theorems.Worded.{AtAdd}
+use Rattle.rules.proofs.Theorems.Worded.{AtAdd}
 use Rattle.rules.specs.Checks as rules
 use Rattle.rules.specs.Checks.{named, owner, instruction_at, good_in}
 use Rattle.reasons.specs.Why.{Why, beyond, stray_bits, word_at, pointer, set_by, extent, may_give}

@@ -12,14 +12,14 @@ use Rattle.common.specs.Opcodes as is
 use Rattle.common.specs.Words.{row, op_of, a_of, b_of, low_of, pack, decode}
 use Rattle.common.specs.Services.{isolate, add_jump_target, add_store_target, add_read_target, is_service, is_service_number, service_count}
 use Rattle.common.specs.AddressSets.{set_at, pairs_at, is_empty, in_set}
-use Rattle.common.specs.Laws.Tests.{both, clash, not_and, not_or, not_leb}
-use Rattle.common.specs.Laws.WordLaws.{Above, a_above, b_above, low_above, decode_3, decode_16}
+use Rattle.common.proofs.Laws.Tests.{both, clash, not_and, not_or, not_leb}
+use Rattle.common.proofs.Laws.WordLaws.{Above, a_above, b_above, low_above, decode_3, decode_16}
 use Rattle.rules.specs.Compartments.{member, empty}
 use Rattle.rules.specs.State.{State, first_number, in_memory, owner_at, jumpers_at, owns}
 use Rattle.rules.specs.Checks as rules
 use Rattle.rules.specs.Checks.{instruction_at, named, owner, verdict, checks}
 use Rattle.rules.specs.Step.{step}
-use Rattle.rules.specs.Theorems.Worded.{AtAdd}
+use Rattle.rules.proofs.Theorems.Worded.{AtAdd}
 use Rattle.reasons.specs.Why.{Why, beyond, stray_bits, word_at, pointer, set_by, bad_set, wide_set, about_word, about_size, about_target, about_set, about_gift, form_fault, return_fault, rows, row_of, why}
 use Rattle.reasons.specs.Causes as cause
 use Rattle.reasons.specs.Laws.RowLaws.{told_of, answered, holds_for, holds_for_lem}

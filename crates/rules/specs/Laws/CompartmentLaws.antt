@@ -12,8 +12,8 @@ use Rattle.std.proofs.Math.Arith.{bin_ind, digits_mod}
 use Rattle.std.proofs.Math.Pow.{pow-lt}
 use Rattle.common.specs.Instructions.{bit}
 use Rattle.common.specs.Services.{service_count, is_service_number}
-use Rattle.common.specs.Laws.ServiceLaws.{service_count_lem}
-use Rattle.common.specs.Laws.Tests.{bool_ext}
+use Rattle.common.proofs.Laws.ServiceLaws.{service_count_lem}
+use Rattle.common.proofs.Laws.Tests.{bool_ext}
 use Rattle.rules.specs.Compartments.{numbers, member, insert, empty, up_to, service_numbers, main_alone, size_below}
 
 -- ---- bits of a sum of bits

@@ -7,7 +7,7 @@ use Rattle.std.proofs.Math.Decide.{ℕ_discrete}
 use Rattle.std.proofs.lemmas.Bool.{eqb-false}
 use Rattle.std.specs.Int.Bits.{bit_or, or_step, or_zero_r}
 use Rattle.common.specs.Instructions.{bit}
-use Rattle.common.specs.Laws.Tests.{clash}
+use Rattle.common.proofs.Laws.Tests.{clash}
 use Rattle.rules.specs.Compartments.{numbers, member, insert}
 use Rattle.rules.specs.Laws.CompartmentLaws.{member_insert, bit_most}
 use Rattle.rules.specs.Counts.{count_from}

@@ -1,7 +1,7 @@
 -- The lines so far are without fault and their words are kept; the rest of the text says the rest.
 use native.Mathlib.Omega.{arith}
-use Rattle.sources.specs.Laws.PlaceLaws.{line_end_within}
-use Rattle.sources.specs.Laws.Walks.{walk_starts}
+use Rattle.sources.proofs.Laws.PlaceLaws.{line_end_within}
+use Rattle.sources.proofs.Laws.Walks.{walk_starts}
 use Rattle.assembler.specs.EmitLaws.{kept_within}
 use Rattle.assembler.specs.Emits.{emit_ends, emit_refuses, emit_goes}
 use Rattle.assembler.proofs.emit.emit.Goals as goal

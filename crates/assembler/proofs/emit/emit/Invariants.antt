@@ -2,7 +2,7 @@
 use mathlib.Core.Path.{◌≡◌}
 use Prim.Native.Nat.{◌+◌, ◌-◌, ◌≤◌}
 use lib.ListN.{length, take}
-use Rattle.sources.specs.Laws.Walks.{Walked}
+use Rattle.sources.proofs.Laws.Walks.{Walked}
 use Rattle.assembler.proofs.emit.emit.Given as goal
 
 abbrev pub invariant-loop-at : goal.invariant-loop-at

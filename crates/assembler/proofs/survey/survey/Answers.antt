@@ -1,6 +1,6 @@
 -- The table holds the labels of the lines so far, and what lies ahead tells the others.
 use native.Mathlib.Omega.{arith}
-use Rattle.sources.specs.Laws.PlaceLaws.{line_end_within}
+use Rattle.sources.proofs.Laws.PlaceLaws.{line_end_within}
 use Rattle.labels.specs.LineLaws.{held_small}
 use Rattle.assembler.specs.Surveys.{survey_starts, survey_ends, survey_full, survey_goes}
 use Rattle.std.proofs.Common.{ap}

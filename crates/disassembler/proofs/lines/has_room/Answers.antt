@@ -1,6 +1,6 @@
 -- The lines measured so far are those of the words before.
 use native.Mathlib.Omega.{arith}
-use Rattle.sources.specs.Listings.ListingLengths.{listing_fits}
+use Rattle.sources.proofs.Listings.ListingLengths.{listing_fits}
 use Rattle.sources.specs.Listing.{listing}
 use Rattle.disassembler.specs.Lines.{length_more, line_room, ample, measured}
 use Rattle.disassembler.proofs.lines.has_room.Goals as goal

@@ -4,7 +4,7 @@ use native.Mathlib.Omega.{arith}
 use lib.ListN.{length, length-append}
 use Rattle.instructions.specs.Views.{decoded}
 use Rattle.numerals.specs.Laws.Widths.{length_digits}
-use Rattle.sources.specs.Listings.ListingRows.{name}
+use Rattle.sources.proofs.Listings.ListingRows.{name}
 use Rattle.sources.specs.Listing.{operands}
 use Rattle.disassembler.specs.Stores.{stored_then}
 use Rattle.disassembler.specs.Lines.{word_number, word_instruction, fields_small}

@@ -1,6 +1,6 @@
 -- Sixteen bytes are room for every word.
 use native.Mathlib.Omega.{arith}
-use Rattle.sources.specs.Listings.ListingLengths.{word_fits}
+use Rattle.sources.proofs.Listings.ListingLengths.{word_fits}
 use Rattle.disassembler.proofs.lines.word_length.Goals as goal
 
 pub store_word-requires : goal.store_word-requires

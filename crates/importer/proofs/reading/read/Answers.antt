@@ -1,7 +1,7 @@
 -- The lines so far are said; the rest of the text says the rest.
 use native.Mathlib.Omega.{arith}
 use Rattle.importer.specs.ReadLaws.{walk_starts, turn_refuses, turn_goes, walk_ends}
-use Rattle.sources.specs.Laws.PlaceLaws.{line_end_within}
+use Rattle.sources.proofs.Laws.PlaceLaws.{line_end_within}
 use Rattle.importer.proofs.reading.read.Goals as goal
 
 pub loop-at-init : goal.loop-at-init

@@ -1,6 +1,6 @@
 -- Seven fields.
 use Rattle.printer.specs.Views.{line}
-use Rattle.printed.specs.Theorems.Lengths.{fields_most}
+use Rattle.printed.proofs.Theorems.Lengths.{fields_most}
 use Rattle.printed.specs.Text.{field, first_fields}
 use mathlib.Core.Path.{ap, ◌∙◌}
 use Prim.Native.Nat.{ℕ}

@@ -1,5 +1,5 @@
 -- The fields, and the line's end.
-use Rattle.printed.specs.Theorems.Lengths.{with_end}
+use Rattle.printed.proofs.Theorems.Lengths.{with_end}
 use Rattle.printed.specs.Text.{first_line}
 use Rattle.text.specs.Puts.{put_behind, put_length}
 use Rattle.printer.proofs.lines.put_first.Goals as goal

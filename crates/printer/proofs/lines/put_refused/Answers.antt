@@ -1,6 +1,6 @@
 -- A field, and the line's end.
 use native.Mathlib.Omega.{arith}
-use Rattle.printed.specs.Theorems.Lengths.{refused_most}
+use Rattle.printed.proofs.Theorems.Lengths.{refused_most}
 use Rattle.printed.specs.Text.{refused_line}
 use Rattle.text.specs.Puts.{put_behind}
 use Rattle.printer.proofs.lines.put_refused.Goals as goal

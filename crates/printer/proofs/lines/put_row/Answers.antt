@@ -1,7 +1,7 @@
 -- Four fields, and the line's end.
 use native.Mathlib.Omega.{arith}
 use Rattle.printer.specs.Views.{row}
-use Rattle.printed.specs.Theorems.Lengths.{row_most}
+use Rattle.printed.proofs.Theorems.Lengths.{row_most}
 use Rattle.printed.specs.Text.{row_line}
 use Rattle.text.specs.Puts.{put_behind}
 use Rattle.printer.proofs.lines.put_row.Goals as goal

@@ -2,7 +2,7 @@
 use mathlib.Core.Path.{sym, ◌∙◌}
 use borrow.Author.Tests.{le-ltb, lt-ltb}
 use Rattle.rules.specs.State.{jumpers_at, in_memory}
-use Rattle.common.specs.Laws.ServiceLaws.{service_range}
+use Rattle.common.proofs.Laws.ServiceLaws.{service_range}
 use Rattle.reach.proofs.walk.numbers_at.Goals as goal
 
 pub returns-then-x-n : goal.returns-then-x-n

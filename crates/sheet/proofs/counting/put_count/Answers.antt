@@ -1,5 +1,5 @@
 -- A number of 32 bits has ten digits at most.
-use Rattle.printed.specs.Theorems.Lengths.{field_most}
+use Rattle.printed.proofs.Theorems.Lengths.{field_most}
 use Rattle.sheet.proofs.counting.put_count.Goals as goal
 
 pub returns : goal.returns

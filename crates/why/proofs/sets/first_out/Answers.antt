@@ -2,7 +2,7 @@
 use mathlib.Core.Path.{◌∙◌}
 use Prim.Native.Nat.{◌-◌}
 use native.Mathlib.Omega.{arith}
-use Rattle.common.specs.Laws.Tests.{clash}
+use Rattle.common.proofs.Laws.Tests.{clash}
 use Rattle.reach.specs.WalkLaws.{every_within}
 use Rattle.address_sets.specs.SetLaws.{every_none, every_more, every_all}
 use Rattle.why.specs.WalkLaws.{stopped, went_through, first_pair_lem}

@@ -3,7 +3,7 @@ use mathlib.Core.Path.{ap}
 use Prim.Native.Nat.{ℕ, ◌+◌, ◌-◌, ◌*◌}
 use native.Mathlib.Omega.{arith}
 use borrow.Author.Tests.{le-ltb, lt-ltb}
-use Rattle.common.specs.Laws.Tests.{clash}
+use Rattle.common.proofs.Laws.Tests.{clash}
 use Rattle.address_sets.specs.SetLaws.{every_ordered, every_none, every_more, every_all}
 use Rattle.why.specs.WalkLaws.{first_pair_lem, inside_ends}
 use Rattle.why.proofs.sets.wrong_pair.Goals as goal

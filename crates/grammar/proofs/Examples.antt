@@ -1,0 +1,1 @@
+-- The folder Examples: lines by computation.

@@ -1,0 +1,4 @@
+-- ---- what is proved of the definitions of specs/
+pub mod Laws
+pub mod Theorems
+pub mod Examples

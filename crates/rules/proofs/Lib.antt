@@ -1,0 +1,5 @@
+-- ---- what is proved of the definitions of specs/
+pub mod Laws
+pub mod Theorems
+pub mod BothMachines
+pub mod Examples

@@ -1,0 +1,2 @@
+-- The folder Examples: whole texts and listings by computation.
+pub mod ListingSamples
