@@ -15,8 +15,8 @@ has_name() { # FILE NAME
 # The lines `path: name` of the block of names in docs/CLAIMS.md.
 claimed_names() { awk '/^```/ { inside = ($0 == "```names"); next } inside && NF' "$root/docs/CLAIMS.md"; }
 
-# The same of what docs/REFERENCE.md cites: `rules/Checks: verdict`, `returns` are two names of Checks.antt somewhere in crates/rules/specs,
-# and `rules/Rest` is a file.
+# The same of what docs/REFERENCE.md cites: `rules/Checks: verdict`, `returns` are two names of Checks.antt somewhere in specs/ or proofs/ of
+# crates/rules, and `rules/Rest` is a file.
 reference_names() {
     local crate module name path
     awk -F '`' '/^Stated by |proved in / {
@@ -30,8 +30,8 @@ reference_names() {
                 } else if (crate != "" && $i ~ /^[A-Za-z_-]+$/) print crate, module, $i
         }' "$root/docs/REFERENCE.md" |
         while read -r crate module name; do
-            path=$(cd "$root" && find "crates/$crate/specs" -name "$module.antt")
-            printf '%s: %s\n' "${path:-crates/$crate/specs/$module.antt}" "$name"
+            path=$(cd "$root/crates/$crate" && find . -path ./out -prune -o -name "$module.antt" -print)
+            printf 'crates/%s/%s: %s\n' "$crate" "${path:-./specs/$module.antt}" "$name"
         done
 }
 

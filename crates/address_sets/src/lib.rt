@@ -1,5 +1,6 @@
 // Sets of addresses where they stand in memory, "a count k, then k pairs (first, past)", read at any place: beyond the end it reads 0.
 #![tactic(auto)]
+
 ghost use Rattle.std.specs.Prelude.{◌≡◌, ◌+◌, min, get_or};
 ghost use Rattle.common.specs.AddressSets.{set_at, ordered, in_pair, in_set};
 ghost use Rattle.address_sets.specs.SetLaws.{pair_of, pair_at, in_order};

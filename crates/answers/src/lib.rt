@@ -1,6 +1,7 @@
 // The answers' numbers by name, the same names as in crates/common/specs/Answers.antt.
 // A step or a run: 0 and 1 end well, 2 to 13, 16 and 17 are stops, 14 and 15 refuse the state.
 #![tactic(auto)]
+
 pub const DONE: u32 = 0;
 
 pub const HALT: u32 = 1;

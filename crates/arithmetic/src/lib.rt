@@ -1,5 +1,6 @@
 // The numbers that an instruction makes: the five results of the arithmetic ones, and where a Bnz goes.
 #![tactic(auto)]
+
 ghost use Rattle.std.specs.Prelude.{◌≡◌, if◌then◌else◌};
 ghost use Rattle.common.specs.Instructions.{arithmetic};
 ghost use Rattle.arithmetic.specs.Targets.{branch_target};

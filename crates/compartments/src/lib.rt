@@ -1,5 +1,6 @@
 // Sets of compartment numbers 0 to 63, each one 64-bit number with a bit per compartment.
 #![tactic(auto)]
+
 ghost use Rattle.std.specs.Prelude.{◌≡◌};
 ghost use Rattle.rules.specs.Compartments.{member, insert, empty, service_numbers, size, lowest};
 

@@ -1,5 +1,6 @@
 // Check 14: whether a processor's numbers and the lengths of the lent memories form a state.
 #![tactic(auto)]
+
 ghost use Rattle.std.specs.Prelude.{◌≡◌};
 ghost use Rattle.form.specs.Form.{lengths_by, room_by, numbered_by, seated_by, formed_by};
 

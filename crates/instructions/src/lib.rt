@@ -1,5 +1,6 @@
 // Instruction words both ways, by one table of fourteen rows.
 #![tactic(auto)]
+
 ghost use Rattle.std.specs.Prelude.{◌≡◌};
 ghost use Rattle.common.specs.Words.{allowed, op_of, a_of, b_of, low_of, pack, fault, decode, encode};
 ghost use Rattle.instructions.specs.Masks.{used_of, fits_in, fields_of};

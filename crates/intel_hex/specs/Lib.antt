@@ -3,4 +3,5 @@ pub mod Records
 pub mod Reading
 pub mod Importing
 pub mod Exporting
+
 -- ---- what is proved of it

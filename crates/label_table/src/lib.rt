@@ -1,5 +1,6 @@
 // The first labels of a text, in a lent array with hashed chains: a label is found in a few steps, however many there are.
 #![tactic(auto)]
+
 ghost use Rattle.std.specs.Prelude.{◌≡◌, ◌<◌, leb};
 ghost use Rattle.grammar.specs.Laws.Runs.{name_at};
 ghost use Rattle.label_table.specs.Table.{most, hash, count, looked, found, inserted};

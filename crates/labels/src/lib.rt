@@ -1,5 +1,6 @@
 // Where a label is defined first.
 #![tactic(auto)]
+
 ghost use Rattle.std.specs.Prelude.{◌≡◌};
 ghost use Rattle.grammar.specs.Laws.Runs.{name_at, line_at};
 ghost use Rattle.grammar.specs.Reading.Shapes.{shape_of};

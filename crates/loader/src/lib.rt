@@ -1,5 +1,6 @@
 // Loads an image into lent memories.
 #![tactic(auto)]
+
 mod filling;
 
 ghost use Rattle.std.specs.Prelude.{◌≡◌, cond, not, ◌&&◌, eqb};

@@ -1,5 +1,6 @@
 // Reading and writing any place of a lent memory and any register: a place beyond the end reads as 0 and is not written.
 #![tactic(auto)]
+
 ghost use Rattle.std.specs.Prelude.{◌≡◌, get_or};
 ghost use Rattle.memory.specs.Places.{put_reg, put_word};
 

@@ -1,6 +1,7 @@
 // What the mode decides of the services and the numbers: how many services there are, where they sit, which compartments own them, and the
 // first unused number.
 #![tactic(auto)]
+
 ghost use Rattle.std.specs.Prelude.{◌≡◌};
 ghost use Rattle.common.specs.Services.{service_count, is_service, is_service_number};
 ghost use Rattle.rules.specs.State.{first_number};

@@ -1,5 +1,6 @@
 // The monitor's services over the caller's numbers and the lent memories: every check by reading first, then the tags are written.
 #![tactic(auto)]
+
 ghost use Rattle.std.specs.Prelude.{◌≡◌, [], if◌then◌else◌};
 ghost use Rattle.common.specs.AddressSets.{set_at};
 ghost use Rattle.rules.specs.Laws.Tested.{isolate_verdict};

@@ -1,5 +1,6 @@
 // What the instruction at pc will write, decided by reading alone.
 #![tactic(auto)]
+
 ghost use Rattle.std.specs.Prelude.{◌≡◌, ◌<◌, ◌≤◌, slice_index};
 ghost use Rattle.common.specs.Answers as answer;
 ghost use Rattle.common.specs.Words.{op_of, decode};

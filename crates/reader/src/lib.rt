@@ -1,5 +1,6 @@
 // Reads an image: what it says, or why it is refused; and N alone, for a host that has lent nothing yet.
 #![tactic(auto)]
+
 mod verdict;
 
 ghost use Rattle.std.specs.Prelude.{◌≡◌, ◌+◌, ◌-◌, ◌*◌, ◌≤◌, [], ◌∷◌, ◌++◌, length, replicate};

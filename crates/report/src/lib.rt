@@ -1,6 +1,7 @@
 // The counts that the run program prints: how many addresses a compartment owns, may jump to and may store to, and how many may
 // write to the most widely writable word. For any state: where a list is shorter than N, its end ends the count.
 #![tactic(auto)]
+
 ghost use Rattle.std.specs.Prelude.{◌≡◌, [], min, length};
 ghost use Rattle.common.specs.Instructions.{bit};
 ghost use Rattle.rules.specs.Counts.{owned_count, jump_count, store_count, writer_count, widest};

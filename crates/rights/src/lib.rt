@@ -1,5 +1,6 @@
 // Who may run, arrive, load and store: the checks 15, 4, 17 and 7, over numbers alone.
 #![tactic(auto)]
+
 pub mod arrival;
 
 ghost use Rattle.std.specs.Prelude.{◌≡◌, ◌&&◌};

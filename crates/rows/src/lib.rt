@@ -1,5 +1,6 @@
 // The table of rows that a host lends, one row a compartment: how rows are moved, and how the loader fills them.
 #![tactic(auto)]
+
 ghost use Rattle.std.specs.Prelude.{◌≡◌, ◌&&◌, length, if◌then◌else◌, ◌==◌, nat_eq, slice_index_or};
 ghost use Rattle.rules.specs.Compartments.{numbers};
 ghost use Rattle.rules.specs.Rows.{no_row, moved_by, fresh_row, fresh_rows};

@@ -1,5 +1,6 @@
 // A step at a service: 2, 4, the service's own checks, then its work on the tags.
 #![tactic(auto)]
+
 ghost use Rattle.std.specs.Prelude.{◌≡◌};
 ghost use Rattle.common.specs.Answers as answer;
 ghost use Rattle.monitor.specs.Outcomes.{called, isolating_of, adding_of};

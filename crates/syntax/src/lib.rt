@@ -1,5 +1,6 @@
 // The shape of a line of source: nothing, a label, a word of memory, or no line.
 #![tactic(auto)]
+
 ghost use Rattle.std.specs.Prelude.{◌≡◌, ◌≤◌};
 ghost use Rattle.grammar.specs.Reading.Shapes.{shape_of, rows, lone};
 ghost use Rattle.sources.specs.Texts.{reading};

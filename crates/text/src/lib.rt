@@ -1,5 +1,6 @@
 // Bytes and numbers put into a lent buffer from a place on; what has no place there is left out.
 #![tactic(auto)]
+
 mod digits;
 
 ghost use Rattle.std.specs.Prelude.{◌≡◌, min};

@@ -1,5 +1,6 @@
 // The next token of a line of source, the end of a line, and whether two names are the same.
 #![tactic(auto)]
+
 mod bytes;
 mod numbers;
 mod reading;

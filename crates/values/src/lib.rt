@@ -1,5 +1,6 @@
 // Values of expressions as a sign and a magnitude, or why there is none; and the field that a value goes to.
 #![tactic(auto)]
+
 ghost use Rattle.std.specs.Prelude.{◌≡◌};
 ghost use Rattle.values.specs.Values as said;
 

@@ -1,5 +1,6 @@
 // Why a step would answer its number: the answer, and the numbers that show its cause. Nothing is written.
 #![tactic(auto)]
+
 mod form_fault;
 mod places;
 mod sets;

@@ -1,5 +1,6 @@
 // Writes an image.
 #![tactic(auto)]
+
 mod numbers;
 mod sections;
 

@@ -15,6 +15,7 @@ pub returns : goal.returns
 returns c =
     law.runs _ _ _ _ _ _ _ _ _ _ _ _ c.word_at-owner.ensures _ c.is_home.ensures (
     elim c.if-not-is_home.branch [
-      then-not-is_home+else-not-is_free+then-owner-prev+else-not-jumped_in w ↦ law.by_jump _ _ _ _ _ _ _ _ _ _ _ _ c.word_at-owner.ensures _ c.is_home.ensures (ap not w.if-not-is_home.true) _ w.is_free.ensures (ap not w.if-not-is_free.false) _ w.prev_of-prev.ensures _ w.jumped_of.ensures _ w.set_at.ensures _ w.jumped_in.ensures (ap not w.if-not-jumped_in.false)
+      | then-not-is_home+else-not-is_free+then-owner-prev+else-not-jumped_in w ↦ law.by_jump _ _ _ _ _ _ _ _ _ _ _ _ c.word_at-owner.ensures _ c.is_home.ensures (ap not w.if-not-is_home.true) _ w.is_free.ensures (ap not w.if-not-is_free.false) _ w.prev_of-prev.ensures _ w.jumped_of.ensures _ w.set_at.ensures _ w.jumped_in.ensures (ap not w.if-not-jumped_in.false)
       | then-not-is_home+else-not-is_free+else-owner-prev w ↦ law.by_own _ _ _ _ _ _ _ _ _ _ _ _ c.word_at-owner.ensures _ c.is_home.ensures (ap not w.if-not-is_home.true) _ w.is_free.ensures (ap not w.if-not-is_free.false) _ w.prev_of-prev.ensures w.if-owner-prev.false
-      | else-not-is_home w ↦ law.at_home _ _ _ _ _ _ _ _ _ _ _ _ c.word_at-owner.ensures _ c.is_home.ensures (ap not w.if-not-is_home.false) ]) _ c.word_at.ensures _ c.execute.ensures
+      | else-not-is_home w ↦ law.at_home _ _ _ _ _ _ _ _ _ _ _ _ c.word_at-owner.ensures _ c.is_home.ensures (ap not w.if-not-is_home.false)
+    ]) _ c.word_at.ensures _ c.execute.ensures

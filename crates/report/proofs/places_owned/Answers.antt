@@ -15,8 +15,9 @@ pub loop-x-preserved : goal.loop-x-preserved
 loop-x-preserved c =
     let goes = count_goes _ _ _ _ _ c.loop-x.invariant (omega arith) in
     elim c.if-owners-x.branch [
-      then-owners-x w ↦ goes true (eq-eqb _ _ w.if-owners-x.true) (omega arith)
-      | else-owners-x w ↦ goes false (ne_eqb _ _ w.if-owners-x.false) (omega arith) ]
+      | then-owners-x w ↦ goes true (eq-eqb _ _ w.if-owners-x.true) (omega arith)
+      | else-owners-x w ↦ goes false (ne_eqb _ _ w.if-owners-x.false) (omega arith)
+    ]
 
 pub returns : goal.returns
 returns c = count_ends _ _ _ _ _ c.loop-x.invariant c.loop-x-test.false c.least-places.ensures

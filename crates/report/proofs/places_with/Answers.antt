@@ -14,8 +14,9 @@ pub loop-x-preserved : goal.loop-x-preserved
 loop-x-preserved c =
     let has = sym c.contains.ensures in
     elim c.if-contains.branch [
-      then-contains w ↦ count_goes _ _ _ _ _ c.loop-x.invariant (omega arith) true (has ∙ w.if-contains.true) (omega arith)
-      | else-contains w ↦ count_goes _ _ _ _ _ c.loop-x.invariant (omega arith) false (has ∙ w.if-contains.false) (omega arith) ]
+      | then-contains w ↦ count_goes _ _ _ _ _ c.loop-x.invariant (omega arith) true (has ∙ w.if-contains.true) (omega arith)
+      | else-contains w ↦ count_goes _ _ _ _ _ c.loop-x.invariant (omega arith) false (has ∙ w.if-contains.false) (omega arith)
+    ]
 
 pub returns : goal.returns
 returns c = count_ends _ _ _ _ _ c.loop-x.invariant c.loop-x-test.false c.least-places.ensures
