@@ -1,7 +1,6 @@
 -- The loop has passed the pairs before j, and x is in none of them.
-use mathlib.Core.Bool.{true, not}
+use mathlib.Core.Bool.{not}
 use mathlib.Core.Path.{sym, ap, ◌∙◌}
-use Prim.Native.Nat.{◌-◌}
 use native.Mathlib.Omega.{arith}
 use borrow.Author.Tests.{not-true, not-false}
 use Rattle.address_sets.specs.SetLaws.{every_misses, every_none, every_more, every_not, every_all}

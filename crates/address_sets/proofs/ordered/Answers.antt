@@ -1,6 +1,5 @@
 -- The loop has passed the pairs before j, and each is in order.
 use mathlib.Core.Path.{sym}
-use Prim.Native.Nat.{◌-◌}
 use native.Mathlib.Omega.{arith}
 use borrow.Author.Tests.{le-ltb, lt-ltb}
 use Rattle.address_sets.specs.SetLaws.{every_ordered, every_none, every_more, every_not, every_all}

@@ -1,5 +1,5 @@
 -- The abstract machine's answer as a nest of tests, by cases of what pc is at, for proofs by cases: it is the table's.
-use Rattle.std.specs.Prelude.{◌≡◌, Bool, cond, ◌&&◌, ◌||◌, not, ℕ, eqb, get_or}
+use Rattle.std.specs.Prelude.{◌≡◌, Bool, cond, ◌||◌, ℕ, eqb, get_or}
 use Rattle.std.proofs.Math.Path.{refl}
 use Rattle.std.proofs.Math.Bool.{true, false, or-false}
 use Rattle.std.proofs.Common.{eqb-true}
@@ -12,7 +12,7 @@ use Rattle.common.specs.AddressSets.{is_empty}
 use Rattle.common.specs.Tables.{first_of}
 use Rattle.common.proofs.Laws.Tests.{cond_not}
 use Rattle.common.proofs.Laws.WordLaws.{Decodes, runs, unknown_opcode, stray, decode_answers}
-use Rattle.paper.specs.Abstract.{State, A-of, S-of, in_memory, reads, current, arrives, instruction_at, target, named, set_a, good_sets, sets_within, returns, checks, verdict}
+use Rattle.paper.specs.Abstract.{State, A-of, S-of, in_memory, reads, current, arrives, instruction_at, target, set_a, good_sets, sets_within, returns, checks, verdict}
 
 -- ---- the instructions, in compartment c
 

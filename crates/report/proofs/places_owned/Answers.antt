@@ -1,9 +1,7 @@
 -- The loop's count is that of the places behind it.
 use mathlib.Core.Bool.{true, false}
-use Prim.Native.Nat.{◌-◌}
 use native.Mathlib.Omega.{arith}
 use borrow.Author.Tests.{eq-eqb, ne_eqb}
-use lib.Dec.{eqb}
 use Rattle.report.specs.CountLaws.{count_starts, count_goes, count_ends}
 use Rattle.report.proofs.places_owned.Goals as goal
 use Rattle.report.proofs.places_owned.Goals.{then-owners-x, else-owners-x}

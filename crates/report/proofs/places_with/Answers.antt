@@ -1,7 +1,6 @@
 -- The loop's count is that of the sets behind it.
 use mathlib.Core.Bool.{true, false}
 use mathlib.Core.Path.{sym, ◌∙◌}
-use Prim.Native.Nat.{◌-◌}
 use native.Mathlib.Omega.{arith}
 use Rattle.report.specs.CountLaws.{count_starts, count_goes, count_ends}
 use Rattle.report.proofs.places_with.Goals as goal

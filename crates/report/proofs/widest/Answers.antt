@@ -1,10 +1,9 @@
 -- The loop's maximum is that of the words behind it.
 use mathlib.Core.Path.{◌≡◌, ap, ◌∙◌}
-use Prim.Native.Nat.{ℕ, ◌-◌, min}
+use Prim.Native.Nat.{ℕ, min}
 use native.Mathlib.Omega.{arith}
-use lib.ListN.{get_or, length}
-use mathlib.Core.List.{List}
-use Rattle.rules.specs.Counts.{writer_count, most_below, widest}
+use lib.ListN.{length}
+use Rattle.rules.specs.Counts.{most_below, widest}
 use Rattle.report.specs.CountLaws.{most_none, most_more}
 use Rattle.report.proofs.widest.Invariants.{at}
 use Rattle.report.proofs.widest.Goals as goal

@@ -1,31 +1,29 @@
 -- The rows of an accepted image: right as the loader fills them, so right after any number of steps; what is owned adds up, and numbers that are not used have nothing.
 use Rattle.std.proofs.Math.Path.{◌≡◌, refl, ap, ap₂}
 use Rattle.std.proofs.Common.{sym, ◌∙◌, subst, arith}
-use Rattle.std.specs.Prelude.{Bool, ◌&&◌, not, List, [], ◌∷◌, ◌≢◌, get_or, length}
+use Rattle.std.specs.Prelude.{Bool, ◌&&◌, not, List, ◌≢◌, get_or, length}
 use Rattle.std.proofs.Math.Bool.{true, false, cond}
 use Prim.Native.Nat.{ℕ, zero, suc, ◌+◌, ◌-◌, ◌≤◌, ◌<◌}
 use Rattle.std.proofs.Math.Nat.{zero-add, add-zero}
-use Rattle.std.proofs.Math.Decide.{ℕ_discrete}
-use borrow.Author.Tests.{eqb-true, eqb-false, eq-eqb, ne_eqb, lt-ltb, le-ltb, le-leb, lt-leb, ltb-true, ltb-false, not-true}
+use borrow.Author.Tests.{eqb-true, eqb-false, eq-eqb, ne_eqb, lt-ltb, le-ltb, le-leb, lt-leb, ltb-true, ltb-false}
 use Rattle.std.proofs.Math.Dec.{eqb, ltb, leb}
 use Rattle.std.proofs.lemmas.List.{get_or-replicate}
 use Rattle.common.specs.Answers as answer
 use Rattle.common.specs.Instructions.{bit}
 use Rattle.common.specs.Services.{isolate, service_count, is_service, service_at, is_service_number}
 use Rattle.common.proofs.Laws.ServiceLaws.{service_count_lem}
-use Rattle.common.proofs.Laws.Tests.{both, clash, bool_ext}
 use Rattle.rules.specs.Compartments.{numbers, member, empty, main_alone, service_numbers}
 use Rattle.rules.specs.Laws.CompartmentLaws.{member_empty, member_services, member_main}
-use Rattle.rules.specs.State.{State, service_room, in_memory, has_owner, owner_at, jumpers_at, writers_at, owns, may_jump, may_store}
+use Rattle.rules.specs.State.{State, service_room, in_memory, has_owner, owner_at, jumpers_at, writers_at, owns}
 use Rattle.rules.specs.Images.{size_in, entry_in, words_of, regs_of, loaded, load}
-use Rattle.rules.specs.Run.{Ran, run}
-use Rattle.rules.specs.Counts.{count_from, owned_count, jump_count, store_count}
+use Rattle.rules.specs.Run.{Ran}
+use Rattle.rules.specs.Counts.{count_from, owned_count}
 use Rattle.rules.specs.Laws.Tested.{formed}
 use Rattle.rules.proofs.Laws.TagLaws.{filled}
 use Rattle.rules.proofs.Laws.FormLaws.{numbers_good, outside}
 use Rattle.rules.specs.Laws.CountLaws.{count_same, count_none, count_one, count_all, count_sum, count_shift, owning, having}
 use Rattle.rules.proofs.Laws.ServiceRows.{services_owned, owned_list, jump_list, store_list}
-use Rattle.rules.specs.Rows.{Row, no_row, counts_of, fresh_row, fresh_rows, owned_below, LentStepped, LentRan, lent_run, lent_load}
+use Rattle.rules.specs.Rows.{Row, no_row, counts_of, fresh_row, fresh_rows, owned_below, LentRan, lent_run, lent_load}
 use Rattle.rules.specs.Laws.RowLaws.{row_is, length_rows, row_of_lem}
 use Rattle.rules.proofs.Theorems.Rows.{told, Right, lent_load_lem, same_run, run_right}
 use Rattle.rules.proofs.Laws.StepLaws.{run_keeps}

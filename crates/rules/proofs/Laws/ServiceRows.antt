@@ -1,21 +1,21 @@
 -- What a step does to the counts: an instruction and an added reader nothing, a service as much as the lists of tags that it changes differ.
-use Rattle.std.specs.Prelude.{◌≡◌, Bool, cond, ◌&&◌, ◌||◌, not, List, [], ◌∷◌, ◌≢◌, ◌⊎◌, ℕ, zero, suc, ◌+◌, ◌-◌, ◌≤◌, ◌<◌, min, ltb, leb, get_or, length, set}
+use Rattle.std.specs.Prelude.{◌≡◌, Bool, cond, ◌&&◌, ◌||◌, not, List, ◌≢◌, ◌⊎◌, ℕ, ◌+◌, ◌-◌, ◌≤◌, ◌<◌, min, ltb, get_or, length, set}
 use Rattle.std.proofs.Math.Path.{refl, sym, ap, ap₂}
-use Rattle.std.proofs.Common.{◌∙◌, subst, inl, inr, length-set, get_or-set_same, get_or-set_other}
+use Rattle.std.proofs.Common.{◌∙◌, subst, inl, inr, get_or-set_same, get_or-set_other}
 use Rattle.std.proofs.Math.Bool.{true, false}
 use native.Mathlib.Omega.{arith}
 use Rattle.std.proofs.Math.Nat.{add-zero}
 use Rattle.std.proofs.Math.Decide.{ℕ_discrete}
-use borrow.Author.Tests.{lt-ltb, le-ltb, ltb-true, ltb-false, eqb-true, eq-eqb, le-leb}
+use borrow.Author.Tests.{lt-ltb, ltb-true, ltb-false, eqb-true, eq-eqb, le-leb}
 use Rattle.std.proofs.Math.Dec.{eqb}
 use Rattle.std.proofs.Math.Seq.{set_out}
 use Rattle.common.specs.Words.{Decoded}
 use Rattle.common.specs.Instructions.{bit, reg}
 use Rattle.common.specs.Services.{isolate, service_count, is_service, service_at}
-use Rattle.common.specs.AddressSets.{Pair, in_set}
+use Rattle.common.specs.AddressSets.{in_set}
 use Rattle.common.proofs.Laws.AddressSetLaws.{within_at}
 use Rattle.common.proofs.Laws.Tests.{both}
-use Rattle.rules.specs.Compartments.{numbers, member, insert, empty}
+use Rattle.rules.specs.Compartments.{numbers, member, insert}
 use Rattle.rules.specs.Laws.CompartmentLaws.{member_empty}
 use Rattle.rules.specs.State.{State, in_memory, has_owner, owner_at, jumpers_at, writers_at, owns, may_jump, may_store}
 use Rattle.rules.specs.Checks.{set_a, set_j, set_s}

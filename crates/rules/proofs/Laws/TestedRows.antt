@@ -5,7 +5,6 @@ use Rattle.std.proofs.Math.Bool.{or-false, or_assoc, not-not}
 use Rattle.std.proofs.lemmas.Bool.{not-false, eqb-false}
 use Rattle.common.specs.Answers as answer
 use Rattle.common.specs.Opcodes as is
-use Rattle.common.specs.Instructions.{reg}
 use Rattle.common.specs.Services.{isolate, add_jump_target, add_store_target, add_read_target, service_count, is_service}
 use Rattle.common.proofs.Laws.ServiceLaws.{service_count_lem, service_range}
 use Rattle.common.proofs.Laws.WordLaws.{Decodes, runs, unknown_opcode, stray, decode_answers}

@@ -1,33 +1,30 @@
 -- A table of 64 rows changes no answer and no state, and each row moves as its counts do: right rows stay right, and wrong ones wrong by the same amount.
 use Rattle.std.proofs.Math.Path.{◌≡◌, refl, ap}
-use Rattle.std.proofs.Common.{sym, ap₂, ◌∙◌, subst, arith, zero-add, eqb-true, eq-eqb, ne_eqb}
+use Rattle.std.proofs.Common.{sym, ◌∙◌, subst, arith, zero-add, eqb-true, eq-eqb, ne_eqb}
 use Rattle.std.specs.Prelude.{Bool, ◌&&◌, ◌↔◌, ◌≢◌, ℕ, zero, suc, ◌+◌, ◌≤◌, ◌<◌, eqb, get_or, length}
 use Rattle.std.proofs.Math.Bool.{true, false, cond, not}
-use mathlib.Core.List.{List, [], ◌∷◌}
-use Rattle.std.proofs.Math.Decide.{ℕ_discrete}
+use mathlib.Core.List.{List}
 use Rattle.std.proofs.lemmas.Bool.{eqb-false}
 use Rattle.common.specs.Answers as answer
-use Rattle.common.specs.Tables.{Check, first_of, Exactly, NoneHolds}
+use Rattle.common.specs.Tables.{first_of, Exactly, NoneHolds}
 use Rattle.common.proofs.Laws.TableLaws.{nonzero, on_its_condition, done_otherwise}
 use Rattle.common.proofs.Laws.ServiceLaws.{service_count_lem}
-use Rattle.common.proofs.Laws.Tests.{both, clash}
 use Rattle.common.specs.Services.{isolate, service_count}
 use Rattle.rules.specs.Compartments.{numbers, member}
 use Rattle.rules.specs.State.{State, in_memory, owns}
 use Rattle.rules.specs.Checks.{bad_form, lengths_differ, checks, verdict}
-use Rattle.rules.specs.Step.{Stepped, commit, step}
+use Rattle.rules.specs.Step.{commit, step}
 use Rattle.rules.specs.Run.{Ran, one_more, run}
-use Rattle.rules.specs.Images.{load_checks, load_verdict, image_checks, register_checks, entry_checks, load, loaded, not_loaded, words_of, regs_of, entry_in, size_in}
+use Rattle.rules.specs.Images.{load_checks, load_verdict, image_checks, register_checks, entry_checks, load, not_loaded, size_in}
 use Rattle.rules.specs.Laws.Tested.{formed}
 use Rattle.rules.proofs.Laws.TestedRows.{form_row}
 use Rattle.rules.proofs.Laws.FormLaws.{n_most}
 use Rattle.rules.proofs.Laws.StepLaws.{answer_is}
-use Rattle.rules.proofs.Laws.Passed.{Passes, passes}
+use Rattle.rules.proofs.Laws.Passed.{passes}
 use Rattle.rules.proofs.Theorems.Formed.{step_formed}
-use Rattle.rules.specs.Counts.{count_from, owned_count, jump_count, store_count}
 use Rattle.rules.specs.Laws.CountLaws.{count_most, count_shift}
 use Rattle.rules.proofs.Laws.ServiceRows.{owned_list, jump_list, store_list}
-use Rattle.rules.specs.Rows.{Row, no_row, counts_of, moved_by, moved_row, moved_from, moved, wrong_rows, after_first, lent_checks, lent_verdict, LentStepped, lent_step, LentRan, one_more_lent, ended_lent, lent_run, fresh_rows, lent_load_checks, lent_load_verdict, lent_load}
+use Rattle.rules.specs.Rows.{Row, no_row, counts_of, moved_row, moved_from, moved, wrong_rows, after_first, lent_checks, lent_verdict, LentStepped, lent_step, LentRan, one_more_lent, ended_lent, lent_run, fresh_rows, lent_load_checks, lent_load_verdict, lent_load}
 use Rattle.rules.specs.Laws.RowLaws.{moved_small, moved_on, moved_right, length_moved, row_moved, none_moved, are_moved}
 
 -- ---- 18

@@ -1,12 +1,12 @@
 -- What `widest` means: how many compartments may store to the most widely writable word, its owner counted once; no word has more, and one has so many.
 use Rattle.std.specs.Prelude.{◌≡◌, Bool, ◌||◌, leb, eqb, get_or, length}
 use Rattle.std.proofs.Math.Path.{refl, ap}
-use Rattle.std.proofs.Common.{sym, ap₂, ◌∙◌, subst, zero-add}
+use Rattle.std.proofs.Common.{sym, ap₂, ◌∙◌, zero-add}
 use Rattle.std.proofs.Math.Bool.{true, false, or_comm}
 use Prim.Native.Nat.{ℕ, zero, suc, ◌+◌, ◌-◌, ◌≤◌, ◌<◌, min, max}
 use native.Mathlib.Omega.{arith}
 use Rattle.std.proofs.Math.Decide.{ℕ_discrete}
-use borrow.Author.Tests.{ltb-true, ltb-false, lt-ltb, le-ltb, ne_eqb}
+use borrow.Author.Tests.{ltb-true, ltb-false, lt-ltb, ne_eqb}
 use Rattle.std.proofs.Math.Dec.{ltb}
 use Rattle.common.specs.Instructions.{bit}
 use Rattle.rules.specs.Compartments.{numbers, member, insert, size_below}

@@ -1,8 +1,8 @@
 -- The conditions of 3, 16 and 8 to 12 in words: the word's opcode and bits, and what the tests on sets of pairs come to, address by address,
 -- with no list of pairs in it.
-use Rattle.std.specs.Prelude.{◌≡◌, Bool, ◌&&◌, ◌||◌, not, [], ◌↔◌, ◌⊎◌, ℕ, ◌+◌, ◌*◌, ◌≤◌, ◌<◌, eqb, get_or}
+use Rattle.std.specs.Prelude.{◌≡◌, Bool, ◌&&◌, ◌||◌, not, ◌↔◌, ◌⊎◌, ℕ, ◌+◌, ◌*◌, ◌≤◌, ◌<◌, eqb, get_or}
 use Rattle.std.proofs.Math.Path.{refl}
-use Rattle.std.proofs.Common.{sym, ap, ◌∙◌, inl, inr, ⊎_elim, ltb-true, lt-ltb, eqb-true, eq-eqb}
+use Rattle.std.proofs.Common.{inl, inr, ⊎_elim, ltb-true, lt-ltb, eqb-true, eq-eqb}
 use Rattle.std.proofs.Math.Bool.{true, false}
 use Rattle.common.specs.Answers as answer
 use Rattle.common.specs.Opcodes as is
@@ -10,11 +10,11 @@ use Rattle.common.specs.Words.{op_of, a_of, b_of, low_of, decode}
 use Rattle.common.proofs.Laws.WordLaws.{Above, decode_3, decode_16}
 use Rattle.common.specs.Instructions.{reg}
 use Rattle.common.specs.Services.{isolate, add_jump_target, add_store_target, add_read_target}
-use Rattle.common.specs.AddressSets.{good_set, set_at, is_empty, in_set, within, ordered}
+use Rattle.common.specs.AddressSets.{set_at, is_empty, in_set, within, ordered}
 use Rattle.common.proofs.Laws.Meaning.{Among, in_set_iff, within_iff, empty_iff, good_set_iff, good_ordered}
 use Rattle.common.proofs.Laws.Tests.{both, clash}
 use Rattle.rules.specs.State.{State, in_memory, owns, may_jump, may_store, may_read, reads}
-use Rattle.rules.specs.Checks.{is_word, instruction_at, no_instruction, stray_bit, set_a, set_j, set_s, set_r, good_in, good_sets, bad_sets, empty_set, sets_within, not_within, not_owned, returns, no_return}
+use Rattle.rules.specs.Checks.{is_word, instruction_at, no_instruction, stray_bit, set_a, set_r, good_in, good_sets, bad_sets, empty_set, sets_within, not_within, not_owned, returns, no_return}
 
 -- ---- tests and what they say
 

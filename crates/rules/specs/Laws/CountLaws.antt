@@ -1,10 +1,9 @@
 -- Counts of addresses, place by place: what one change of the owners or of the sets of a list adds or takes.
-use Rattle.std.specs.Prelude.{◌≡◌, refl, Bool, true, false, cond, ◌&&◌, not, List, ◌≢◌, ◌⊎◌, ℕ, zero, suc, ◌+◌, ◌*◌, ◌/◌, ◌%◌, ◌^◌, ◌≤◌, ◌<◌, max, eqb, ltb, get_or, length, set}
+use Rattle.std.specs.Prelude.{◌≡◌, refl, Bool, true, false, ◌&&◌, not, List, ◌≢◌, ◌⊎◌, ℕ, zero, suc, ◌+◌, ◌*◌, ◌/◌, ◌%◌, ◌^◌, ◌≤◌, ◌<◌, max, eqb, get_or, length, set}
 use Rattle.std.proofs.Math.Path.{sym}
-use Rattle.std.proofs.Common.{ap, ap₂, ◌∙◌, subst, ⊎_elim, arith, zero-add, add-zero, pow-suc, suc-add, eqb-true, eq-eqb, ne_eqb, lt-ltb, ltb-true, ltb-false, get_or-set_same, get_or-set_other, shr-shr}
+use Rattle.std.proofs.Common.{ap, ap₂, ◌∙◌, subst, ⊎_elim, arith, zero-add, add-zero, pow-suc, eqb-true, eq-eqb, ne_eqb, lt-ltb, get_or-set_same, get_or-set_other, shr-shr}
 use Rattle.std.proofs.Math.Bool.{or-true, or-false}
 use Rattle.std.proofs.Math.Decide.{ℕ_discrete}
-use Rattle.std.proofs.lemmas.Bool.{eqb-false}
 use Rattle.std.specs.Int.Bits.{bit_or, or_step, or_zero_r}
 use Rattle.common.specs.Instructions.{bit}
 use Rattle.common.proofs.Laws.Tests.{clash}

@@ -1,9 +1,8 @@
 -- Laws of rows: how one count moves, all rows at once, and the two rows that a service moves.
-use Rattle.std.specs.Prelude.{◌≡◌, Bool, true, false, cond, List, [], ◌∷◌, ◌≢◌, ℕ, zero, suc, ◌+◌, ◌-◌, ◌%◌, ◌≤◌, ◌<◌, eqb, get_or, length}
+use Rattle.std.specs.Prelude.{◌≡◌, List, [], ◌∷◌, ◌≢◌, ℕ, zero, suc, ◌+◌, ◌-◌, ◌%◌, ◌<◌, get_or, length}
 use Rattle.std.proofs.Math.Path.{refl, ap}
-use Rattle.std.proofs.Common.{sym, ap₂, ◌∙◌, subst, arith, not-suc-le-zero, le_of_suc-le-suc, add-zero, suc-add, add-suc, zero-add, eqb-true, eq-eqb, ne_eqb, ext_get_or, get_or-set_same, get_or-set_other}
+use Rattle.std.proofs.Common.{sym, ◌∙◌, subst, arith, not-suc-le-zero, le_of_suc-le-suc, add-zero, suc-add, add-suc, zero-add, eq-eqb, ne_eqb, ext_get_or, get_or-set_same, get_or-set_other}
 use Rattle.std.proofs.Math.Decide.{ℕ_discrete}
-use Rattle.std.proofs.lemmas.Bool.{eqb-false}
 use Rattle.std.proofs.Math.ListN.{set, length-set}
 use Rattle.std.proofs.Math.Seq.{set-get_or}
 use Rattle.rules.specs.Rows.{Row, no_row, moved_by, moved_row, moved_from, rows_from}

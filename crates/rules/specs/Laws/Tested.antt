@@ -7,7 +7,7 @@ use Rattle.common.specs.Instructions.{reg}
 use Rattle.common.specs.Services.{isolate, is_service, is_service_number}
 use Rattle.common.specs.AddressSets.{is_empty}
 use Rattle.rules.specs.Compartments.{numbers}
-use Rattle.rules.specs.State.{State, first_number, in_memory, has_owner, owner_at, owns, may_jump, may_store, may_read, reads}
+use Rattle.rules.specs.State.{State, first_number, in_memory, has_owner, owner_at, owns, may_jump, may_store, reads}
 use Rattle.rules.specs.Checks.{instruction_at, set_a, good_sets, sets_within, returns}
 
 -- ---- 14: what the state's form must be

@@ -1,9 +1,9 @@
 -- The bytes before the place reached are stored; those that have no place are left out.
 use mathlib.Core.List.{List}
 use mathlib.Core.Path.{◌≡◌, refl, ap, ◌∙◌}
-use Prim.Native.Nat.{ℕ, ◌+◌, ◌-◌}
+use Prim.Native.Nat.{ℕ, ◌+◌}
 use native.Mathlib.Omega.{arith}
-use lib.ListN.{length, length-set, take, set, get_or}
+use lib.ListN.{length-set, take, set, get_or}
 use lib.Seq.{sets}
 use Rattle.text.specs.Puts.{front_put, none_put}
 use Rattle.text.specs.Stores.{text_more}

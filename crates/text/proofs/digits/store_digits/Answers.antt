@@ -2,7 +2,7 @@
 use native.Mathlib.Omega.{arith}
 use mathlib.Core.Path.{refl, ◌∙◌}
 use Prim.Native.Nat.{◌-◌}
-use lib.ListN.{length, length-set}
+use lib.ListN.{length-set}
 use Rattle.text.specs.Stores.{digit_small, tail_none, tail_more, tail_all}
 use Rattle.text.proofs.digits.store_digits.Goals as goal
 

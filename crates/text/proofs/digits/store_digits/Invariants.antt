@@ -1,6 +1,6 @@
 -- From the place reached on the digits stand in the buffer, and those before it are the digits of what is left of the number.
 use mathlib.Core.Path.{◌≡◌}
-use Prim.Native.Nat.{◌-◌, ◌≤◌}
+use Prim.Native.Nat.{◌≤◌}
 use lib.ListN.{length}
 use Rattle.text.specs.Stores.{Tail}
 use Rattle.text.proofs.digits.store_digits.Given as goal
