@@ -1,0 +1,6 @@
+-- The bytes before i were put; the line keeps its room.
+use Rattle.std.proofs.Common.{length, ◌-◌}
+use Rattle.sentences.proofs.forms.tell_nth.Given as goal
+
+abbrev pub decreases-loop-i : goal.decreases-loop-i
+decreases-loop-i l = length l.texts - l.i
