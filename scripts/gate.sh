@@ -43,8 +43,9 @@ try_edits() { # [CRATE...]
     lock
     find_room
     copy_for_edits || missing "a copy of the crates could not be written to $room" "look at the rights and the room there; TMPDIR names another place"
-    mkdir -p "$root/target" && : >"$root/target/edits.log" ||
+    if ! { mkdir -p "$root/target" && : >"$root/target/edits.log"; }; then
         missing "target/edits.log could not be written" "look at the rights and the room in $root/target"
+    fi
     say "trying the edits under more-edits/, each against its whole crate; all of them take some minutes; the log is target/edits.log"
     cd "$room"
     print_from show_verdicts "$@" || ended=$?

@@ -49,11 +49,11 @@ watch_crates() { # CRATE LOG
         place[$crate]=$all
     done
     while kill -0 $$ 2>/dev/null; do
-        for crate in $(sed -n 's/^rt: chose --jobs [0-9]* for \([A-Za-z0-9_]*\)$/\1/p' "$2"); do
+        while read -r crate; do
             [ -z "${told[$crate]-}" ] || continue
             told[$crate]=yes
             say "proving ${place[$crate]-?} of $all: $crate"
-        done
+        done < <(sed -n 's/^rt: chose --jobs [0-9]* for \([A-Za-z0-9_]*\)$/\1/p' "$2")
         sleep 0.2
     done
 }
@@ -82,7 +82,7 @@ prove() { # VERB CRATE LOG
         watcher=''
     fi
     was_made "$1" "$2" "$3" "$ended" ||
-        missing "'rt $1' in crates/$2 ended with $ended: $(grep -m 1 'error\|: not proved$\|: no proof' "$3" || echo "not proved")" "its log is $3"
+        missing "'rt $1' in crates/$2 ended with $ended: $(grep -m 1 'error\|: not proved$\|: no proof' "$3" || tail -n 1 "$3")" "its log is $3"
 }
 
 # Sets `made` to target/ready/NAME, a copy of what `rt VERB` proved and compiled as out/FROM of CRATE; makes it where it is not there.
