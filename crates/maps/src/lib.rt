@@ -8,7 +8,7 @@ mod picture;
 mod places;
 mod plain;
 mod shapes;
-mod tags;
+mod shown;
 
 use lines::numbers::argument;
 use lines::{complain, end, note};

@@ -4,7 +4,7 @@ use crate::legend::{say_characters, say_meaning, tell_count, tell_end};
 use crate::places::{ENTRY, ROW, cell_place, entry_place, line_place, plus, rows};
 use crate::plain::cell_at;
 use crate::shapes::{begin_cell, begin_text, end_cell, say_mark, say_marks, say_style};
-use crate::tags::say_tags;
+use crate::shown::say_tags;
 use lines::{say, tell};
 use machine::{Processor, Ran};
 
