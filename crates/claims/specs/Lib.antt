@@ -10,7 +10,6 @@ pub mod Memories
 pub mod Lending
 pub mod Code
 pub mod Sessions
-pub mod CodeRefusals
 pub mod CodeSteps
 pub mod CodeAgreement
 pub mod CodeSources

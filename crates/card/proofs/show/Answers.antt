@@ -1,6 +1,6 @@
 -- The status is the call's; where the text could not be written it says so.
 use Rattle.std.proofs.Common.{ap, ◌∙◌}
-use Rattle.printed.specs.Theorems.Printing.{print_status}
+use Rattle.printed.proofs.Theorems.Printing.{print_status}
 use Rattle.printed.specs.Outcome.{Printed, written}
 use Rattle.card.proofs.show.Goals as goal
 
