@@ -1,4 +1,4 @@
--- The bytes before i were put; the line keeps its room.
+-- Each turn is one byte of the form less.
 use Rattle.std.proofs.Common.{length, ◌-◌}
 use Rattle.sentences.proofs.forms.tell.Given as goal
 

@@ -1,4 +1,4 @@
--- The bytes before i were put; the line keeps its room.
+-- Each turn is one byte of the texts less.
 use Rattle.std.proofs.Common.{length, ◌-◌}
 use Rattle.sentences.proofs.forms.tell_nth.Given as goal
 
