@@ -17,7 +17,7 @@ use Rattle.claims.specs.Demands as demands
 use Rattle.claims.specs.Demands.{UpTo, blank_over}
 use Rattle.claims.specs.Promises as promises
 use Rattle.claims.specs.Code.{Code, one_step}
-use Rattle.claims.proofs.Code.{run_one}
+use Rattle.claims.proofs.Calls.{run_one}
 use Rattle.claims.specs.Sessions.{budget_of, Call, Called, called}
 
 -- what holds of the one holds of the other

@@ -17,7 +17,7 @@ use Rattle.rules.proofs.BothMachines.LoadedRows as loaded
 use Rattle.claims.specs.Lending.{Lending, told_load, one_lent, run_one_lent}
 use Rattle.claims.specs.Lending as lending
 use Rattle.claims.specs.Code.{Code}
-use Rattle.claims.proofs.Code.{with_rows, for_c}
+use Rattle.claims.proofs.Calls.{with_rows, for_c}
 use Rattle.claims.specs.Sessions.{Asked, one_step_lem, steps, budget_of, left_by, steps_of, Called, Session}
 use Rattle.claims.specs.CodeAgreement.{Begun}
 use Rattle.claims.proofs.CodeAgreement.{left_run}
@@ -25,7 +25,7 @@ use Rattle.claims.specs.CodeRows.{LentCall, seen, left_rows, LentAllowed, LentSe
 
 module _ (l : Lending) where
   -- a call by its contract is a run of the rules, whatever the table
-  pub lent_called : (q : Asked) (s : State) (rows : List Row) (o : LentRan) → LentAllowed q s rows o → o ≡ lent_run (budget_of q) s rows
+  pub lent_called : (q : Asked) (s : State) (rows : List Row) (o : LentRan) → LentAllowed l q s rows o → o ≡ lent_run (budget_of q) s rows
   lent_called one_step_lem s rows o = l.steps s rows o
   lent_called (steps budget) s rows o = l.runs budget s rows o
 
@@ -62,10 +62,10 @@ module _ (l : Lending) where
 
   -- ---- right rows stay right, from any state, after a call and after calls in a row
 
-  pub call_right : (q : Asked) (s : State) (rows : List Row) (o : LentRan) → LentAllowed q s rows o → Right s rows → Right o.state o.rows
+  pub call_right : (q : Asked) (s : State) (rows : List Row) (o : LentRan) → LentAllowed l q s rows o → Right s rows → Right o.state o.rows
   call_right q s rows o h r = subst (λ (x : LentRan). Right x.state x.rows) (sym (lent_called q s rows o h)) (run_right (budget_of q) s rows r)
 
-  pub session_right : (s : State) (rows : List Row) (cs : List LentCall) → LentSession s rows cs → Right s rows → Right (left_by s (seen cs)) (left_rows rows cs)
+  pub session_right : (s : State) (rows : List Row) (cs : List LentCall) → LentSession l s rows cs → Right s rows → Right (left_by s (seen cs)) (left_rows rows cs)
   session_right s rows [] h r = r
   session_right s rows (c ∷ cs) h r = session_right c.did.state c.did.rows cs h.1 (call_right c.asked s rows c.did h.0 r)
 

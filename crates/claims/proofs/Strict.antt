@@ -9,7 +9,7 @@ use Rattle.rules.specs.Checks.{instruction_at, named, set_r}
 use Rattle.rules.specs.Step.{step}
 use Rattle.rules.specs.Run.{Ran}
 use Rattle.claims.specs.Code.{Code, one_step}
-use Rattle.claims.proofs.Code.{run_one}
+use Rattle.claims.proofs.Calls.{run_one}
 use Rattle.claims.specs.Strict.{load_read, new_reader}
 
 -- ---- strict mode, of any outcome that the contract of step allows, by value or for C

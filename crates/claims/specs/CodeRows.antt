@@ -2,8 +2,8 @@
 use Rattle.std.specs.Prelude.{◌≡◌, Bool, List, [], ◌∷◌, ℕ, length}
 use Rattle.rules.specs.Compartments.{numbers}
 use Rattle.rules.specs.State.{State}
-use Rattle.rules.specs.Run.{Ran, run}
-use Rattle.rules.specs.Images.{Loaded, load}
+use Rattle.rules.specs.Run.{Ran}
+use Rattle.rules.specs.Images.{Loaded}
 use Rattle.rules.specs.Rows.{Row, LentStepped, LentRan}
 use Rattle.rules.proofs.Theorems.Rows.{told}
 use Rattle.claims.specs.Lending.{Lending}

@@ -1,6 +1,6 @@
 -- Why, over the contracts of the calls: what a call tells shows the cause of the number that the step would answer.
-use Rattle.std.specs.Prelude.{◌≡◌, List, [], ◌∷◌, ◌↔◌, ℕ}
-use Rattle.std.proofs.Common.{sym, ap, ◌∙◌, subst}
+use Rattle.std.specs.Prelude.{◌≡◌, ◌↔◌, ℕ}
+use Rattle.std.proofs.Common.{sym, subst}
 use Rattle.rules.specs.State.{State}
 use Rattle.rules.specs.Step.{step}
 use Rattle.reasons.specs.Why as reasons
@@ -8,8 +8,6 @@ use Rattle.reasons.specs.Theorems.Witness.{Shows, shows, told_exactly}
 use Rattle.machine.specs.Views.{state_of}
 use Rattle.why.specs.Views.{why_of}
 use Rattle.why.proofs.why.Reads as call
-use Rattle.host.specs.Views.{WhyOutcome}
-use Rattle.host.proofs.kl_why_of.Reads as kl-why-of
 
 -- whatever is told, if it is what the definition says
 module _ (s : State) (w : reasons.Why) (e : w ≡ reasons.why s) where
