@@ -76,9 +76,10 @@ not_proved() {
 # rt fails as it should where it cannot write, and what it made is not half there where it cannot be kept.
 folder_full() { # FOLDER
     copy_proofs
-    mkdir -p "$room/copy/$1"
-    mount -t tmpfs -o size=64k none "$room/copy/$1" 2>/dev/null || skip "no small disk can be mounted here, which needs root"
-    trap 'umount "$room/copy/$1"' EXIT
+    small=$room/copy/$1
+    mkdir -p "$small"
+    mount -t tmpfs -o size=16k none "$small" 2>/dev/null || skip "no small disk can be mounted here, which needs root"
+    trap 'umount "$small"' EXIT
     attempt "$card" run "$room/eleven.img"
     ends_with 4
     writes ''
