@@ -29,6 +29,12 @@ one_name() { # TEXT
     writes "$halts"$'\n'"$(totals_of 1 0 1 0 0)"
 }
 
+# A name that is no text in UTF-8.
+odd_name() {
+    cp "$room/halt.img" "$room/h"$'\377'".img"
+    one_name 'h\0377.img\n'
+}
+
 no_names() {
     sheet_of ''
     ends_with 0
@@ -139,6 +145,7 @@ sheet_checks() {
     check one_name 'halt.img\n' -- "sheet: every image halted is status 0"
     check one_name 'halt.img' -- "sheet: the last name lacks its line feed"
     check one_name "$(long_name 255)" -- "sheet: a name of 255 bytes"
+    check odd_name -- "sheet: a name that is not UTF-8"
     check refused_name "$(long_name 256)" -- "sheet: a name of 256 bytes is refused 20"
     check refused_name '\n' -- "sheet: an empty name is refused 20"
     check refused_name 'none.img\n' -- "sheet: a file that is not there is refused 20"

@@ -14,6 +14,23 @@ write_list() { # NAMES...
     [ $# -eq 0 ] || printf '%s\n' "$@" >"$room/list" || missing "the list could not be kept in $room" "look at the room there"
 }
 
+# The sheet program opens names of UTF-8 alone. In ROOM/list a file of another name gets one, that of a link to it in ROOM/names; a name that is
+# refused anyway, longer than 255 bytes or with a zero byte, stays. What grep takes for no line of characters is what is not UTF-8.
+link_odd_names() {
+    local number name
+    { LC_ALL=C.UTF-8 grep -anvx '.*' "$room/list" || true; } | cut -d : -f 1 >"$room/odd"
+    [ -s "$room/odd" ] || return 0
+    mkdir "$room/names" || missing "the list could not be kept in $room" "look at the room there"
+    while IFS= read -r number; do
+        ! LC_ALL=C sed -n "${number}p" "$room/list" | grep -aqP '\x00' || continue
+        name=$(LC_ALL=C sed -n "${number}p" "$room/list")
+        [ "$(printf '%s' "$name" | wc -c)" -le 255 ] || continue
+        [ "${name#/}" != "$name" ] || name=$PWD/$name
+        ln -s -- "$name" "$room/names/$number" || missing "the list could not be kept in $room" "look at the room there"
+        LC_ALL=C sed -i "${number}s#.*#$room/names/$number#" "$room/list" || missing "the list could not be kept in $room" "look at the room there"
+    done <"$room/odd"
+}
+
 # How many lines of the sheet are written, every two seconds, until it is ended.
 watch_sheet() { # NAMES
     while sleep 2 && kill -0 $$ 2>/dev/null; do say "$(wc -l <"$room/output") of $1 images"; done
@@ -35,6 +52,7 @@ make_sheet() { # [--strict] LIST | [--strict] -- FILES...
         take "$1" list "list" $((list_most + 1))
         [ "$(wc -c <"$room/list")" -le "$list_most" ] || missing "the list $1 has more than $list_most bytes" "give a list of names, one a line"
     fi
+    link_odd_names
     find_program "$sheet"
     if [ -t 2 ]; then
         names=$(grep -ac '' "$room/list" || true)
