@@ -1,4 +1,4 @@
--- The memories keep their lengths, and the steps that are left grow fewer.
+-- The steps that are left grow fewer.
 use Rattle.telling.proofs.trace.trace_steps.Given as goal
 
 abbrev pub decreases-loop-left : goal.decreases-loop-left
