@@ -66,7 +66,7 @@ not_proved() {
     mkdir -p "$room/copy/target/ready"
     cp "$root/target/ready/card_run" "$room/copy/target/ready/"
     cp "$root/target/ready/card_run.kit" "$room/copy/target/ready/"
-    sed -i 's/run_input(false)/run_input(0)/' "$room/copy/crates/card_run/src/main.rt"
+    sed -i 's/run_input(rt, false)/run_input(rt, 0)/' "$room/copy/crates/card_run/src/main.rt"
     attempt "$card" run "$room/eleven.img"
     could_not "'rt run' in crates/card_run ended with 1: "
     says "its log is $room/copy/target/ready/card_run.log"
