@@ -1,16 +1,21 @@
 -- Laws of sets of addresses by which the code reads them, pair by pair.
 use Rattle.std.specs.Prelude.{◌≡◌, refl, Bool, true, ◌&&◌, ◌||◌, not, List, [], ◌∷◌, ltb, eqb, get_or}
-use Rattle.std.proofs.Common.{sym, ◌∙◌, not-suc-le-zero, add-one, arith, lt-ltb, le-ltb, le-leb, ne_eqb}
+use Rattle.std.specs.List.{list_all, list_any, range_with_len}
+use Rattle.std.proofs.Common.{sym, ◌∙◌, not-suc-le-zero, add-one, add-zero, zero-add, arith, lt-ltb, le-ltb, le-leb, ne_eqb}
 use Rattle.std.proofs.Math.Path.{ap}
-use Rattle.std.proofs.Math.Bool.{false, and-false}
+use Rattle.std.proofs.Math.Bool.{false, and-true, and-false, and_assoc}
 use Prim.Native.Nat.{ℕ, zero, suc, ◌+◌, ◌-◌, ◌*◌, ◌/◌, ◌<◌, ◌≤◌}
 use Rattle.std.proofs.Math.Decide.{ℕ_discrete}
 use Rattle.std.proofs.lemmas.Bool.{lt-leb}
 use Rattle.common.specs.AddressSets.{Pair, pairs_at, set_at, inside, ordered, is_empty, in_pair, in_set}
 use Rattle.address_sets.specs.declared.Pair as code
+use Rattle.address_sets.specs.declared.AddressSet.{AddressSet}
 
 abbrev pub pair_of : code.Pair → Pair
 pair_of p = record { first = p.first; past = p.past }
+
+abbrev pub set_of : AddressSet → List Pair
+set_of s = set_at s.words.now s.at
 
 -- pair k of those from place p on
 abbrev pub pair_at : List ℕ → ℕ → ℕ → Pair
@@ -35,45 +40,63 @@ module _ {every : List Pair → Bool} {each : Pair → Bool} (law : Every every 
       ∙ law.more (pair_at words (q + 1) j) (pairs_at words (q + 1) j)
       ∙ simp (h, ← e, t)
 
-  first_not_lem : (j k : ℕ) → j < k → each (pair_at words (q + 1) j) ≡ false → every (pairs_at words (q + 1) k) ≡ false
-  unfolding pairs_at
-  first_not_lem j zero h e = absurd (not-suc-le-zero h)
-  first_not_lem j (suc k) h e =
-      law.more (pair_at words (q + 1) k) (pairs_at words (q + 1) k) ∙ go (ℕ_discrete j k) (first_not_lem j k)
-    where
-      go : Dec (j ≡ k) → (j < k → each (pair_at words (q + 1) j) ≡ false → every (pairs_at words (q + 1) k) ≡ false)
-          → (every (pairs_at words (q + 1) k) && each (pair_at words (q + 1) k)) ≡ false
-      go (yes s) ih =
-          ap (λ (m : ℕ). every (pairs_at words (q + 1) k) && each (pair_at words (q + 1) m)) (sym s)
-          ∙ ap (λ (b : Bool). every (pairs_at words (q + 1) k) && b) e
-          ∙ and-false (every (pairs_at words (q + 1) k))
-      go (no s) ih = ap (λ (b : Bool). b && each (pair_at words (q + 1) k)) (ih (omega arith) e)
-
-  -- a pair that does not pass
-  pub every_not : (j : ℕ) (p : Pair) → p ≡ pair_at words (q + 1) j → j < get_or words q 0 → each p ≡ false → every (set_at words q) ≡ false
-  unfolding set_at
-  every_not j p e h t = first_not_lem j (get_or words q 0) h (ap each (sym e) ∙ t)
-
   -- the end is reached
   pub every_all : (j : ℕ) → j ≡ get_or words q 0 → every (pairs_at words (q + 1) j) ≡ true → every (set_at words q) ≡ true
   unfolding set_at
   every_all j e h = ap (λ (k : ℕ). every (pairs_at words (q + 1) k)) (sym e) ∙ h
 
-abbrev is_ordered : Pair → Bool
+abbrev pub is_ordered : Pair → Bool
 is_ordered p = ltb p.first p.past
 
 pub every_ordered : Every ordered is_ordered
 unfolding ordered
 every_ordered = record { none = refl; more = λ p ps. refl }
 
+not_or : (a b : Bool) → not (a || b) ≡ (not a && not b)
+not_or true b = refl
+not_or false b = refl
+
 -- x is in no pair
 pub every_misses : (x : ℕ) → Every (λ ps. not (in_set ps x)) (λ p. not (in_pair p x))
 unfolding in_set
 every_misses x = record { none = refl; more = λ p ps. not_or (in_set ps x) (in_pair p x) }
+
+-- ---- the pairs in order, as a walk over their numbers from 0 on comes to them
+
+module _ (each : Pair → Bool) (words : List ℕ) (q : ℕ) where
+  abbrev pub passes_at : ℕ → Bool
+  passes_at j = each (pair_at words (q + 1) j)
+
+  -- one number more
+  all_more : (a n : ℕ) → list_all passes_at (range_with_len a (suc n)) ≡ (list_all passes_at (range_with_len a n) && passes_at (a + n))
+  all_more a zero = rw add-zero (and-true (passes_at a))
+  all_more a (suc n) =
+      ap (λ (b : Bool). passes_at a && b) (all_more (a + 1) n) ∙ sym (and_assoc (passes_at a) (list_all passes_at (range_with_len (a + 1) n)) (passes_at (a + 1 + n)))
+      ∙ ap (λ (m : ℕ). list_all passes_at (range_with_len a (suc n)) && passes_at m) (omega arith)
+
+  pub every_of_all : {every : List Pair → Bool} → Every every each → (r : Bool) → r ≡ list_all passes_at (range_with_len 0 (get_or words q 0)) → r ≡ every (set_at words q)
+  unfolding set_at pairs_at
+  every_of_all {every} law r e = e ∙ go (get_or words q 0)
+    where
+      go : (k : ℕ) → list_all passes_at (range_with_len 0 k) ≡ every (pairs_at words (q + 1) k)
+      go zero = sym law.none
+      go (suc k) =
+          all_more 0 k ∙ ap (λ (b : Bool). b && passes_at (0 + k)) (go k) ∙ ap (λ (m : ℕ). every (pairs_at words (q + 1) k) && passes_at m) (zero-add k)
+          ∙ sym (law.more (pair_at words (q + 1) k) (pairs_at words (q + 1) k))
+
+-- some pair has x
+pub in_of_any : (words : List ℕ) (q x : ℕ) (r : Bool) → r ≡ list_any (passes_at (λ p. in_pair p x) words q) (range_with_len 0 (get_or words q 0)) → r ≡ in_set (set_at words q) x
+in_of_any words q x r e =
+    e ∙ sym (not_not (list_any (passes_at (λ p. in_pair p x) words q) (range_with_len 0 (get_or words q 0))))
+    ∙ ap not (none_all (range_with_len 0 (get_or words q 0)) ∙ every_of_all (λ p. not (in_pair p x)) words q (every_misses x) _ refl) ∙ not_not (in_set (set_at words q) x)
   where
-    not_or : (a b : Bool) → not (a || b) ≡ (not a && not b)
-    not_or true b = refl
-    not_or false b = refl
+    not_not : (b : Bool) → not (not b) ≡ b
+    not_not true = refl
+    not_not false = refl
+
+    none_all : (js : List ℕ) → not (list_any (passes_at (λ p. in_pair p x) words q) js) ≡ list_all (passes_at (λ p. not (in_pair p x)) words q) js
+    none_all [] = refl
+    none_all (j ∷ js) = not_or (in_pair (pair_at words (q + 1) j) x) (list_any (passes_at (λ p. in_pair p x) words q) js) ∙ ap (λ (b : Bool). not (in_pair (pair_at words (q + 1) j) x) && b) (none_all js)
 
 -- ---- the set as a whole
 

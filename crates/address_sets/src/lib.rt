@@ -2,103 +2,93 @@
 #![tactic(auto)]
 
 ghost use Rattle.std.specs.Prelude.{◌≡◌, ◌+◌, min, get_or};
-ghost use Rattle.common.specs.AddressSets.{set_at, ordered, in_pair, in_set};
-ghost use Rattle.address_sets.specs.SetLaws.{pair_of, pair_at, in_order};
+ghost use Rattle.common.specs.AddressSets.{ordered, is_empty, in_pair, in_set};
+ghost use Rattle.address_sets.specs.SetLaws.{pair_of, pair_at, set_of, in_order};
 
-// The addresses first .. past - 1.
+/// The addresses first .. past - 1.
 #[derive(Clone, Copy)]
 pub struct Pair {
     pub first: u32,
     pub past: u32,
 }
 
-// A word, at a place counted on from a pointer: it may be past 32 bits.
-fn word(words: &[u32], at: usize) -> u32
-    ensures { result ≡ get_or words.now at 0 }
-{
-    if at < words.len() { words[at] } else { 0 }
-}
-
-// Pair j of the set at q.
-pub fn pair_at(words: &[u32], q: u32, j: u32) -> Pair
-    ensures { pair_of result ≡ pair_at words.now (q + 1) j }
-{
-    let at = q as usize + 1 + 2 * (j as usize);
-    Pair {
-        first: word(words, at),
-        past: word(words, at + 1),
+impl Pair {
+    // Whether x is one of the addresses.
+    pub fn contains(self, x: u32) -> bool
+        ensures { result ≡ in_pair (pair_of self) x }
+    {
+        self.first <= x && x < self.past
     }
 }
 
-// Whether every pair has first < past.
-fn ordered(words: &[u32], q: u32) -> bool
-    ensures { result ≡ ordered (set_at words.now q) }
-{
-    let k = word(words, q as usize);
-    let mut j = 0;
-    while j < k {
-        let pair = pair_at(words, q, j);
-        if pair.first >= pair.past {
-            return false;
+/// The set at a place of the words.
+#[derive(Clone, Copy)]
+pub struct AddressSet<'a> {
+    pub words: &'a [u32],
+    pub at: u32,
+}
+
+impl AddressSet<'_> {
+    // A word, at a place counted on from the set's: it may be past 32 bits.
+    fn word(&self, place: usize) -> u32
+        ensures { result ≡ get_or self.now.words.now place 0 }
+    {
+        self.words.get(place).copied().unwrap_or(0)
+    }
+
+    // How many pairs the set has.
+    pub fn count(&self) -> u32
+        ensures { result ≡ get_or self.now.words.now self.now.at 0 }
+    {
+        self.word(self.at as usize)
+    }
+
+    // Whether it has none.
+    pub fn is_empty(&self) -> bool
+        ensures { result ≡ is_empty (set_of self.now) }
+    {
+        self.count() == 0
+    }
+
+    // Pair j.
+    pub fn pair(&self, j: u32) -> Pair
+        ensures { pair_of result ≡ pair_at self.now.words.now (self.now.at + 1) j }
+    {
+        let place = self.at as usize + 1 + 2 * (j as usize);
+        Pair {
+            first: self.word(place),
+            past: self.word(place + 1),
         }
-        j += 1;
     }
-    true
-}
 
-// Whether the set at q is wholly inside memory and in order. The count is held against the room behind q, so nothing wraps.
-pub fn in_order(words: &[u32], n: u32, q: u32) -> bool
-    ensures { result ≡ in_order words.now n q }
-{
-    if q >= n {
-        return false;
+    // Whether every pair has first < past.
+    fn is_ordered(&self) -> bool
+        ensures { result ≡ ordered (set_of self.now) }
+    {
+        (0..self.count()).all(|j| {
+            let pair = self.pair(j);
+            pair.first < pair.past
+        })
     }
-    let k = word(words, q as usize);
-    if k > (n - q - 1) / 2 {
-        return false;
-    }
-    ordered(words, q)
-}
 
-fn in_pair(pair: Pair, x: u32) -> bool
-    ensures { result ≡ in_pair (pair_of pair) x }
-{
-    if x < pair.first {
-        return false;
+    // Whether the set is wholly inside memory and in order. The count is held against the room behind its place, so nothing wraps.
+    pub fn is_in_order(&self, n: u32) -> bool
+        ensures { result ≡ in_order self.now.words.now n self.now.at }
+    {
+        self.at < n && self.count() <= (n - self.at - 1) / 2 && self.is_ordered()
     }
-    x < pair.past
-}
 
-// Whether x is in the set at q.
-pub fn has(words: &[u32], q: u32, x: u32) -> bool
-    ensures { result ≡ in_set (set_at words.now q) x }
-{
-    let k = word(words, q as usize);
-    let mut j = 0;
-    while j < k {
-        let pair = pair_at(words, q, j);
-        if in_pair(pair, x) {
-            return true;
-        }
-        j += 1;
+    // Whether x is in the set.
+    pub fn contains(&self, x: u32) -> bool
+        ensures { result ≡ in_set (set_of self.now) x }
+    {
+        (0..self.count()).any(|j| self.pair(j).contains(x))
     }
-    false
 }
 
 // Where a walk over a memory ends: at past, at n, or at the end of what is lent.
 pub fn clipped(past: u32, n: u32, len: usize) -> usize
     ensures { result ≡ min (min past n) len }
 {
-    let a = past as usize;
-    let b = n as usize;
-    if len < a {
-        if len < b {
-            return len;
-        }
-        return b;
-    }
-    if b < a {
-        return b;
-    }
-    a
+    (past.min(n) as usize).min(len)
 }

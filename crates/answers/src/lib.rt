@@ -1,12 +1,87 @@
-// The answers' numbers by name, the same names as in crates/common/specs/Answers.antt.
-// A step or a run: 0 and 1 end well, 2 to 13, 16 and 17 are stops, 14 and 15 refuse the state.
+// What a call answers where it does not do what was asked: each number of the sheet has one name, the same as in
+// crates/common/specs/Answers.antt.
 #![tactic(auto)]
 
+ghost use Rattle.std.specs.Prelude.{◌≡◌};
+ghost use Rattle.answers.specs.Numbers.{number, answer_of};
+
+/// Why a step stops, or a state, an image, a word, a source or a text is refused.
+#[derive(Clone, Copy, Debug, PartialEq, Eq)]
+pub enum Refusal {
+    NoPlace = 2,
+    NoInstruction = 3,
+    NoArrival = 4,
+    LoadOutside = 5,
+    StoreOutside = 6,
+    StoreForbidden = 7,
+    BadSet = 8,
+    EmptySet = 9,
+    NotWithin = 10,
+    NotOwned = 11,
+    NoReturn = 12,
+    NoNumber = 13,
+    BadForm = 14,
+    BadOwner = 15,
+    StrayBit = 16,
+    LoadForbidden = 17,
+    BadRows = 18,
+    NotWhole = 20,
+    BadSize = 21,
+    ManyRegisters = 22,
+    LastZero = 23,
+    BadEntryCount = 24,
+    BadEntry = 25,
+    BytesLeft = 26,
+    LengthsDiffer = 27,
+    ShortMemory = 28,
+    NoWord = 30,
+    ShortBuffer = 31,
+    NoLine = 50,
+    UnknownLabel = 51,
+    LabelTwice = 52,
+    ValueOutside = 53,
+    TooDeep = 54,
+    ManyWords = 55,
+    BadRecord = 60,
+    BadSum = 61,
+    OtherType = 62,
+    BeyondMemory = 63,
+    ByteTwice = 64,
+    AfterEnd = 66,
+    NoEnd = 65,
+    PartWord = 67,
+    NoData = 68,
+}
+
+/// Why a text is refused, and the line or the record at fault, counted from 1: 0 where it is none of them.
+#[derive(Clone, Copy, Debug, PartialEq, Eq)]
+pub struct Fault {
+    pub refusal: Refusal,
+    pub line: u64,
+}
+
+impl From<Refusal> for u32 {
+    ghost from_gives = { λ refusal n. n ≡ number refusal };
+
+    fn from(refusal: Refusal) -> u32 {
+        refusal as u32
+    }
+}
+
+/// The number that a result answers: 0, or that of its refusal.
+pub fn answer_of<T>(told: &Result<T, Refusal>) -> u32
+    ensures { result ≡ answer_of told.now }
+{
+    match told {
+        Ok(_) => DONE,
+        Err(refusal) => u32::from(*refusal),
+    }
+}
+
+// The answers of a step and of a run, which are numbers in the run's loop: 0 and 1 end well, the others are the refusals of the same names.
 pub const DONE: u32 = 0;
 
 pub const HALT: u32 = 1;
-
-pub const NO_PLACE: u32 = 2;
 
 pub const NO_INSTRUCTION: u32 = 3;
 
@@ -18,18 +93,6 @@ pub const STORE_OUTSIDE: u32 = 6;
 
 pub const STORE_FORBIDDEN: u32 = 7;
 
-pub const BAD_SET: u32 = 8;
-
-pub const EMPTY_SET: u32 = 9;
-
-pub const NOT_WITHIN: u32 = 10;
-
-pub const NOT_OWNED: u32 = 11;
-
-pub const NO_RETURN: u32 = 12;
-
-pub const NO_NUMBER: u32 = 13;
-
 pub const BAD_FORM: u32 = 14;
 
 pub const BAD_OWNER: u32 = 15;
@@ -39,60 +102,3 @@ pub const STRAY_BIT: u32 = 16;
 pub const LOAD_FORBIDDEN: u32 = 17;
 
 pub const BAD_ROWS: u32 = 18;
-
-// The loader; the writer has BAD_SIZE and BAD_ENTRY too.
-pub const NOT_WHOLE: u32 = 20;
-
-pub const BAD_SIZE: u32 = 21;
-
-pub const MANY_REGISTERS: u32 = 22;
-
-pub const LAST_ZERO: u32 = 23;
-
-pub const BAD_ENTRY_COUNT: u32 = 24;
-
-pub const BAD_ENTRY: u32 = 25;
-
-pub const BYTES_LEFT: u32 = 26;
-
-pub const LENGTHS_DIFFER: u32 = 27;
-
-pub const SHORT_MEMORY: u32 = 28;
-
-// The encoder, and the writer.
-pub const NO_WORD: u32 = 30;
-
-pub const SHORT_BUFFER: u32 = 31;
-
-// The assembler, of a line; it has BAD_SIZE and SHORT_BUFFER too.
-pub const NO_LINE: u32 = 50;
-
-pub const UNKNOWN_LABEL: u32 = 51;
-
-pub const LABEL_TWICE: u32 = 52;
-
-pub const VALUE_OUTSIDE: u32 = 53;
-
-pub const TOO_DEEP: u32 = 54;
-
-pub const MANY_WORDS: u32 = 55;
-
-// Intel HEX, of a record; an import has BAD_ENTRY and SHORT_BUFFER too, an export BAD_SIZE and SHORT_BUFFER.
-pub const BAD_RECORD: u32 = 60;
-
-pub const BAD_SUM: u32 = 61;
-
-pub const OTHER_TYPE: u32 = 62;
-
-pub const BEYOND_MEMORY: u32 = 63;
-
-pub const BYTE_TWICE: u32 = 64;
-
-pub const AFTER_END: u32 = 66;
-
-// Intel HEX, at the end.
-pub const NO_END: u32 = 65;
-
-pub const PART_WORD: u32 = 67;
-
-pub const NO_DATA: u32 = 68;

@@ -1,3 +1,2 @@
--- ---- the results of the arithmetic instructions and of a branch, for any numbers; their laws
+-- ---- the results of the arithmetic instructions and of a branch, for any numbers
 pub mod Targets
-pub mod ResultLaws

@@ -1,18 +1,17 @@
 -- The second pass, line by line: what it hands out is what the text means.
-use Rattle.std.specs.Prelude.{◌≡◌, Bool, true, false, cond, ◌≢◌, eqb, ltb, length, take, set}
+use Rattle.std.specs.Prelude.{◌≡◌, Bool, true, false, cond, ◌≢◌, eqb, ltb, length, take, set, Ok, Err}
 use Rattle.std.proofs.Math.Path.{refl, sym, ap, fun_ext}
 use Rattle.std.proofs.Common.{◌∙◌, subst, add-zero, add-one, arith, ne_eqb, ltb-true, eqb-true, take-suc-set}
 use mathlib.Core.List.{List, [], ◌∷◌, ◌++◌}
 use Rattle.std.proofs.Math.Option.{Option, some}
 use Prim.Native.Nat.{ℕ, ◌+◌, ◌<◌, ◌≤◌}
-use Rattle.std.proofs.lemmas.Bool.{eqb-false}
 use Rattle.common.specs.Answers as answer
-use Rattle.common.specs.Instructions.{bit}
+use Rattle.answers.specs.declared.Refusal.{Refusal}
+use Rattle.answers.specs.Numbers.{number}
 use Rattle.grammar.specs.Trees.{nothing, labelled, instruction, value}
 use Rattle.grammar.specs.Reading.Reader.{got, fault, deep}
 use Rattle.grammar.proofs.Laws.Tables.{same_refl}
 use Rattle.grammar.specs.Laws.Runs.{name_at, line_at, line_end}
-use Rattle.grammar.specs.Reading.Shapes.{shape_of}
 use Rattle.sources.specs.Texts.{Reading, reading, readings}
 use Rattle.sources.specs.Values.{Valued, is, unknown, outside}
 use Rattle.sources.specs.Labels.{Site, holds, words_in, defined, first, address}
@@ -24,34 +23,49 @@ use Rattle.sources.proofs.Laws.FirstLaws.{first_defined}
 use Rattle.sources.proofs.Laws.Registers.{read_registers}
 use Rattle.sources.proofs.Laws.Walks.{Walked, walk_ends, walk_faults, walk_passes, walk_holds}
 use Rattle.tokens.specs.Streams.{token_at}
-use Rattle.values.specs.declared.Fitted.{Fitted}
-use Rattle.values.specs.Values.{fitted}
 use Rattle.values.specs.Fields.{fitted_of}
-use Rattle.labels.specs.Locating.{held_by}
-use Rattle.labels.specs.LineLaws.{held_holds, line_source, line_says, label_named}
+use Rattle.labels.specs.LineLaws.{line_source, line_says, label_named}
 use Rattle.assembler.specs.Holding.{word_at}
 use Rattle.expressions.specs.Completes.{numbers}
 use Rattle.assembler.specs.Held.{word_means, datum_means}
-use Rattle.assembler.specs.EmitLaws.{judged_word, kept_none, kept_one}
-use Rattle.assembler.specs.Emit.{roomed, label_at, judged_at, Kept, kept, kept_at, emitted_of}
+use Rattle.assembler.specs.Emit.{roomed, label_at, judged, judged_at, emitted_of}
 
--- what a judged line of a shape comes to
-abbrev outcome_of : ℕ → Fitted → Outcome
-outcome_of shape f = cond (eqb f.answer answer.done) (cond (eqb shape 2) (word f.low) empty) (at_fault f.answer)
-
-roomed_means : (count : ℕ) (v : Valued ℕ) → outcome_of 2 (roomed count (fitted_of v)) ≡ placed count v
-unfolding roomed
-roomed_means count (is n) = go (ltb count most)
-  where
-    go : (b : Bool) → outcome_of 2 (cond b (fitted answer.done n) (fitted answer.many_words 0)) ≡ cond b (word n) (at_fault answer.many_words)
-    go true = refl
-    go false = refl
+-- a word as it is placed, if there is room
+roomed_means : (count : ℕ) (v : Valued ℕ) → roomed count (fitted_of v) ≡ placed count v
+roomed_means count (is n) = refl
 roomed_means count unknown = refl
 roomed_means count outside = refl
 
-label_means : (b : Bool) → outcome_of 1 (cond b (fitted answer.label_twice 0) (fitted answer.done 0)) ≡ cond b (at_fault answer.label_twice) empty
-label_means true = refl
-label_means false = refl
+-- a line that comes to nothing holds no word, and one that comes to a word holds one
+placed_some : (count : ℕ) (v : Valued ℕ) → empty ≡ placed count v → ⊥
+placed_some count unknown e = cc
+placed_some count outside e = cc
+placed_some count (is n) e = go (ltb count most) e
+  where
+    go : (b : Bool) → empty ≡ cond b (word n) (at_fault answer.many_words) → ⊥
+    go true h = cc
+    go false h = cc
+
+module _ (all before : List Reading) where
+  holds_none : (l : Reading) → empty ≡ outcome all before l → holds l ≡ 0
+  holds_none (got nothing) e = refl
+  holds_none (got (labelled x)) e = refl
+  holds_none (got (instruction i)) e = absurd (placed_some (words_in before) (instruction_word (address all) (words_in before) i) e)
+  holds_none (got (value x)) e = absurd (placed_some (words_in before) (datum (address all) (words_in before) x) e)
+  holds_none fault e = refl
+  holds_none deep e = refl
+
+  holds_one : (w : ℕ) (l : Reading) → word w ≡ outcome all before l → holds l ≡ 1
+  holds_one w (got nothing) e = cc
+  holds_one w (got (labelled x)) e = go (defined x before) e
+    where
+      go : (b : Bool) → word w ≡ cond b (at_fault answer.label_twice) empty → ◌≡◌ {A = ℕ} 0 1
+      go true h = cc
+      go false h = cc
+  holds_one w (got (instruction i)) e = refl
+  holds_one w (got (value x)) e = refl
+  holds_one w fault e = cc
+  holds_one w deep e = cc
 
 module _ (text : List ℕ) (labels : List ℕ → Option Site) (known : labels ≡ (λ x. first x (readings text)))
     (at line count : ℕ) (ws : List ℕ) (w : Walked text at line count ws) (h : at ≤ length text) where
@@ -62,8 +76,7 @@ module _ (text : List ℕ) (labels : List ℕ → Option Site) (known : labels �
   whole = w.parts ∙ ap (λ (ls : List Reading). w.before ++ ls) (readings_next text at h)
 
   -- a label line
-  twice : (x : List ℕ) → l ≡ got (labelled x)
-      → label_at text labels at line ≡ cond (defined x w.before) (fitted answer.label_twice 0) (fitted answer.done 0)
+  twice : (x : List ℕ) → l ≡ got (labelled x) → label_at text labels at line ≡ cond (defined x w.before) (at_fault answer.label_twice) empty
   unfolding label_at
   twice x e =
       let d = first_defined x w.before l (readings_from text (line_end text at + 1)) (rw e (same_refl x)) in
@@ -75,20 +88,20 @@ module _ (text : List ℕ) (labels : List ℕ → Option Site) (known : labels �
   Reads v = word_at text labels count at ≡ fitted_of (v (numbers text labels count) count)
 
   worded : (v : (List ℕ → Option ℕ) → ℕ → Valued ℕ) → Reads v
-      → outcome_of 2 (roomed count (word_at text labels count at)) ≡ placed (words_in w.before) (v (address (readings text)) (words_in w.before))
+      → roomed count (word_at text labels count at) ≡ placed (words_in w.before) (v (address (readings text)) (words_in w.before))
   worded v e =
-      ap (λ (f : Fitted). outcome_of 2 (roomed count f)) e
+      ap (roomed count) e
       ∙ roomed_means count (v (numbers text labels count) count)
       ∙ ap (λ (f : List ℕ → Option Site). placed count (v (numbers text f count) count)) known
       ∙ ap (λ (n : ℕ). placed n (v (address (readings text)) n)) (sym w.held)
 
-  judged_means : (shape : ℕ) → shape ≡ shape_of l → outcome_of shape (judged_at text labels at shape line count) ≡ outcome (readings text) w.before l
+  judged_means : judged_at text labels at line count ≡ outcome (readings text) w.before l
   unfolding judged_at
-  judged_means shape s = rw s (go l refl)
+  judged_means = go l refl
     where
-      go : (m : Reading) → l ≡ m → outcome_of (shape_of m) (judged_at text labels at (shape_of m) line count) ≡ outcome (readings text) w.before m
+      go : (m : Reading) → l ≡ m → judged text labels at line count m ≡ outcome (readings text) w.before m
       go (got nothing) e = refl
-      go (got (labelled x)) e = ap (outcome_of 1) (twice x e) ∙ label_means (defined x w.before)
+      go (got (labelled x)) e = twice x e ∙ refl
       go (got (instruction i)) e =
           let y = line_says text at (instruction i) e in
           worded (λ f n. instruction_word f n i) (word_means text labels count i (read_registers (line_at text at) i (line_source text at (instruction i) e)) y.choices at y.shallow y.written)
@@ -100,58 +113,30 @@ module _ (text : List ℕ) (labels : List ℕ → Option Site) (known : labels �
 
 -- ---- the steps, with the words kept so far
 
--- a line's word was judged to have room
-room : (count : ℕ) (f g : Fitted) → f ≡ roomed count g → f.answer ≡ answer.done → count < most
-unfolding roomed
-room count f g e z = go (eqb g.answer answer.done) refl (ltb count most) refl
-  where
-    answers : f.answer ≡ (roomed count g).answer
-    answers = ap (λ (x : Fitted). x.answer) e
-
-    go : (b : Bool) → eqb g.answer answer.done ≡ b → (c : Bool) → ltb count most ≡ c → count < most
-    go b k true j = ltb-true count most j
-    go true k false j = let m : (roomed count g).answer ≡ answer.many_words = simp (k, j) in absurd (omega (arith, answers))
-    go false k false j =
-        let m : (roomed count g).answer ≡ g.answer = simp k in
-        absurd (eqb-false g.answer answer.done k (omega (arith, answers)))
-
 module _ (text : List ℕ) (labels : List ℕ → Option Site) (known : (x : List ℕ) → labels x ≡ first x (readings text))
     (at line count : ℕ) (words : List ℕ) (w : Walked text at line count (take count words)) where
-  pub emit_ends : length text < at → emitted_of (record { answer = answer.done; line = 0; count = count }) words ≡ meaning text
+  pub emit_ends : length text < at → emitted_of (Ok count) words ≡ meaning text
   emit_ends h = walk_ends text w h
 
-  module _ (h : at ≤ length text) (shape : ℕ) (s : shape ≡ shape_of (reading (line_at text at))) (f : Fitted) (j : f ≡ judged_at text labels at shape line count) where
-    means : outcome_of shape f ≡ outcome (readings text) w.before (reading (line_at text at))
-    means = ap (outcome_of shape) j ∙ judged_means text labels (fun_ext known) at line count (take count words) w h shape s
+  module _ (h : at ≤ length text) where
+    means : (o : Outcome) → o ≡ judged_at text labels at line count → o ≡ outcome (readings text) w.before (reading (line_at text at))
+    means o j = j ∙ judged_means text labels (fun_ext known) at line count (take count words) w h
 
-    pub emit_refuses : f.answer ≢ answer.done → emitted_of (record { answer = f.answer; line = line + 1; count = 0 }) words ≡ meaning text
-    emit_refuses n =
-        let k : eqb f.answer answer.done ≡ false = ne_eqb f.answer answer.done n in
-        rw k (walk_faults text w h f.answer (rw k refl ∙ means))
+    pub emit_refuses : (refusal : Refusal) → at_fault (number refusal) ≡ judged_at text labels at line count
+        → emitted_of (Err (record { refusal = refusal; line = line + 1 })) words ≡ meaning text
+    emit_refuses refusal j = walk_faults text w h (number refusal) (means _ j)
 
-    module _ (z : f.answer ≡ answer.done) (size : length words ≡ most) (n : ℕ) (new : List ℕ) (e : kept n new ≡ kept_at count shape f.low words) where
-      abbrev Goes : ℕ → List ℕ → Type 0
-      Goes k us = Walked text (line_end text at + 1) (line + 1) k us
+    module _ (end : ℕ) (en : end ≡ line_end text at) where
+      pub emit_passes : empty ≡ judged_at text labels at line count → Walked text (end + 1) (line + 1) count (take count words)
+      emit_passes j =
+          let e = means empty j in
+          let k : count + holds (reading (line_at text at)) ≡ count = rw (holds_none (readings text) w.before (reading (line_at text at)) e) (add-zero count) in
+          rw en (subst (λ x. Walked text (line_end text at + 1) (line + 1) x (take count words)) k (walk_passes text w h e))
 
-      adds : (b : Bool) → eqb shape 2 ≡ b → count + holds (reading (line_at text at)) ≡ count + bit b
-      unfolding held_by
-      adds b k = ap (λ (x : ℕ). count + x) (sym (held_holds (reading (line_at text at))) ∙ ap held_by (sym s) ∙ ap bit k)
-
-      comes : (b : Bool) → eqb shape 2 ≡ b → cond b (word f.low) empty ≡ outcome (readings text) w.before (reading (line_at text at))
-      comes b k = sym (rw (z, k) refl) ∙ means
-
-      goes : (b : Bool) → eqb shape 2 ≡ b → Goes n (take n new)
-      goes true k =
-          let two : shape ≡ 2 = eqb-true shape 2 k in
-          let r : count < most = room count f (word_at text labels count at) (j ∙ sym (judged_word text labels at shape line count _ two _ refl refl)) z in
-          let q = e ∙ sym (kept_one count shape f.low words two r) in
-          let t : take (count + 1) (set words count f.low) ≡ take count words ++ f.low ∷ [] = rw (add-one count) (take-suc-set words count f.low (omega arith)) in
-          rw (ap (λ (x : Kept). x.count) q, ap (λ (x : Kept). x.words) q, t)
-          (subst (λ x. Goes x (take count words ++ f.low ∷ [])) (adds true k) (walk_holds text w h f.low (comes true k)))
-      goes false k =
-          let q = e ∙ sym (kept_none count shape f.low words (eqb-false shape 2 k)) in
-          rw (ap (λ (x : Kept). x.count) q, ap (λ (x : Kept). x.words) q)
-          (subst (λ x. Goes x (take count words)) (adds false k ∙ add-zero count) (walk_passes text w h (comes false k)))
-
-      pub emit_goes : (end : ℕ) → end ≡ line_end text at → Walked text (end + 1) (line + 1) n (take n new)
-      emit_goes end en = rw en (goes (eqb shape 2) refl)
+      pub emit_holds : (v : ℕ) → word v ≡ judged_at text labels at line count → count < length words
+          → Walked text (end + 1) (line + 1) (count + 1) (take (count + 1) (set words count v))
+      emit_holds v j room =
+          let e = means (word v) j in
+          let k : count + holds (reading (line_at text at)) ≡ count + 1 = ap (λ (n : ℕ). count + n) (holds_one (readings text) w.before v (reading (line_at text at)) e) in
+          let t : take (count + 1) (set words count v) ≡ take count words ++ v ∷ [] = rw (add-one count) (take-suc-set words count v room) in
+          rw (en, t) (subst (λ x. Walked text (line_end text at + 1) (line + 1) x (take count words ++ v ∷ [])) k (walk_holds text w h v e))

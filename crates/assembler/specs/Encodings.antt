@@ -23,7 +23,6 @@ coded_as op a b low o x y z w eo ex ey ez =
 -- .. with a register and a value
 pub completed_as : (op a o x : ℕ) (v : Valued ℕ) → op < 16 → ((n : ℕ) → v ≡ is n → Allowed op a 0 n) → o ≡ op → x ≡ a
     → completed (o % 16) x (fitted_of v) ≡ fitted_of (after (λ f. is (word_of f)) (after (λ n. is (fields op a 0 n)) v))
-unfolding completed
 completed_as op a o x v l w eo ex = let s : op % 16 ≡ op = mod-eq_of_lt l in rw (eo, s, ex) (go v w)
   where
     go : (u : Valued ℕ) → ((n : ℕ) → u ≡ is n → Allowed op a 0 n)

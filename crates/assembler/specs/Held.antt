@@ -21,10 +21,10 @@ use Rattle.tokens.specs.Heads.{head}
 use Rattle.values.specs.Values.{fit}
 use Rattle.values.specs.Fields.{fitted_of, fit_means}
 use Rattle.expressions.specs.declared.Read.{Read}
-use Rattle.expressions.specs.Readers.{expression_at}
+use Rattle.expressions.specs.Readers.{Reading, expression_at}
 use Rattle.expressions.specs.Completes.{NoStar, NoSign, numbers, ReadsTo, reads_expression}
 use Rattle.assembler.specs.declared.word.Operand.{Operand}
-use Rattle.assembler.specs.Holding.{completed, register_at, past_comma, operand_at, one_at, two_at, three_at, constant_at, branch_at, datum_at, word_at}
+use Rattle.assembler.specs.Holding.{completed, reads, register_at, past_comma, operand_at, one_at, two_at, three_at, constant_at, branch_at, datum_at, word_at}
 use Rattle.assembler.specs.HoldingLaws.{word_plain, word_constant, word_branch, word_one, word_two, word_three, word_datum}
 use Rattle.assembler.specs.Encodings.{coded_as, completed_as}
 
@@ -93,12 +93,9 @@ module _ (text : List ℕ) where
   module _ (labels : List ℕ → Option Site) (dot : ℕ) where
     -- an expression was read from a place on, and is put into a field
     fits : (below above size : ℕ) → size ≤ 4294967296 → (e : Expr) (at : ℕ) (us : List Token)
-        → ReadsTo text labels dot at (expression_at text labels dot deepest at) (value_e (numbers text labels dot) dot e) us
-        → fit (expression_at text labels dot deepest at).value below above size ≡ fitted_of (after (in_field below above size) (value_e (numbers text labels dot) dot e))
-    fits below above size h e at us r =
-        ap (λ (x : Read). fit x.value below above size) r.came
-        ∙ fit_means below above size h r.val
-        ∙ ap (λ (v : Valued ℤ). fitted_of (after (in_field below above size) v)) r.means
+        → (r : ReadsTo text labels dot at (expression_at text labels dot deepest at) (value_e (numbers text labels dot) dot e) us)
+        → fit r.val below above size ≡ fitted_of (after (in_field below above size) (value_e (numbers text labels dot) dot e))
+    fits below above size h e at us r = fit_means below above size h r.val ∙ ap (λ (v : Valued ℤ). fitted_of (after (in_field below above size) v)) r.means
 
     -- the fields of an instruction that is read are allowed
     admits : (i : Instruction) → Registers i → (f : Fields) → fields_of (numbers text labels dot) dot i ≡ is f → Allowed f.op f.a f.b f.low
@@ -127,7 +124,7 @@ module _ (text : List ℕ) where
         let o = takes_next r.next c.first n [] g r.rest in
         let op = (token_at text at).value % 16 in
         sym (word_constant text labels dot at _ refl _ h.kind refl)
-        ∙ ap (λ (y : Read). completed op (operand_at text y.next).register (fit (expression_at text labels dot deepest at').value 0 65535 65536)) r.came
+        ∙ ap (λ (y : Reading). reads y (λ e. completed op (operand_at text e.next).register (fit e.value 0 65535 65536))) r.came
         ∙ ap (completed op (operand_at text r.next).register) (fits 0 65535 65536 (omega arith) x at' us r)
         ∙ completed_as (opcode Const) n _ _ (immediate (numbers text labels dot) dot x) (omega arith)
         (λ k v. admits (constant x n) g _ (ap (after (λ i. is (fields (opcode Const) n 0 i))) v)) h.number o.is_it
@@ -159,6 +156,7 @@ module _ (text : List ℕ) where
         let at'' = past_comma text at' in
         let r = reads_expression text labels dot x deepest at'' [] d refl refl (p ∙ sym l.parts ∙ sym (append-nil (write_e x))) in
         sym (word_branch text labels dot at _ refl _ h.kind refl)
+        ∙ ap (λ (y : Reading). reads y (λ e. completed ((token_at text at).value % 16) (register_at text (token_at text at).next).register (fit e.value 32768 32767 65536))) r.came
         ∙ ap (completed ((token_at text at).value % 16) (register_at text (token_at text at).next).register) (fits 32768 32767 65536 (omega arith) x at'' [] r)
         ∙ completed_as (opcode Bnz) a _ _ (displacement (numbers text labels dot) dot x) (omega arith)
         (λ k v. admits (branching a x) g _ (ap (after (λ i. is (fields (opcode Bnz) a 0 i))) v)) h.number o.is_it
@@ -172,4 +170,5 @@ module _ (text : List ℕ) where
         let n = l.no_mnemonic in
         let r = reads_expression text labels dot x deepest at [] d refl refl (e ∙ sym (append-nil (write_e x))) in
         sym (word_datum text labels dot at _ refl _ (omega arith) (omega arith) (omega arith) (omega arith) (omega arith) (omega arith) refl)
+        ∙ ap (λ (y : Reading). reads y (λ e. fit e.value 0 4294967295 4294967296)) r.came
         ∙ fits 0 4294967295 4294967296 (omega arith) x at [] r

@@ -1,5 +1,5 @@
 -- The survey's steps: behind each line the table holds the labels of the lines so far, and what lies ahead tells the others.
-use Rattle.std.specs.Prelude.{◌≡◌, Bool, cond, not, List, ◌≢◌, ℕ, ◌+◌, ◌<◌, ◌≤◌, length, replicate}
+use Rattle.std.specs.Prelude.{◌≡◌, Bool, cond, not, List, ◌≢◌, ℕ, ◌+◌, ◌<◌, ◌≤◌, length, is_some}
 use Rattle.std.proofs.Math.Path.{refl, sym}
 use Rattle.std.proofs.Common.{ap, ◌∙◌, subst, eqb-true, leb-false, eq-eqb, ne_eqb}
 use Rattle.std.proofs.Math.Bool.{true, false}
@@ -14,50 +14,31 @@ use Rattle.grammar.specs.Reading.Shapes.{shape_of}
 use Rattle.sources.specs.Texts.{reading, readings}
 use Rattle.sources.specs.Labels.{Site, site, holds, defines, first}
 use Rattle.sources.proofs.Laws.FirstLaws.{ahead, ahead_start, ahead_past, ahead_here, ahead_next}
-use Rattle.tokens.specs.declared.Taken.{Taken}
-use Rattle.tokens.specs.Streams.{token_at}
-use Rattle.label_table.specs.declared.Found.{Found}
-use Rattle.label_table.specs.Table.{most, count, looked, found, inserted}
+use Rattle.tokens.specs.Streams.{Handed, token_at}
+use Rattle.label_table.specs.declared.Table.{Table}
+use Rattle.label_table.specs.Table.{most, count, looked, found, empty, inserted}
 use Rattle.label_table.specs.Fairness.{Fair}
 use Rattle.label_table.specs.Insertions.{fair_empty, looked_empty, fair_insert, looked_insert}
 use Rattle.labels.specs.Locating.{held_by, or_else}
-use Rattle.labels.specs.Scans.{absent}
 use Rattle.labels.specs.LineLaws.{held_holds, defines_none, defines_name}
 use Rattle.assembler.specs.Survey.{Noted, noted, noted_at, Surveyed}
 
--- ---- a line's returns
-
-module _ (text : List ℕ) (at shape line words : ℕ) (table : List ℕ) where
-  pub no_label : shape ≢ 1 → noted true table ≡ noted_at text at shape line words table
-  unfolding noted_at
-  no_label h = simp (ne_eqb shape 1 h)
-
-  module _ (h : shape ≡ 1) (t : Taken) (e : t ≡ token_at text at) (f : Found) (g : f ≡ found (looked text table (name_at text t.place))) where
-    pub in_table : f.there ≡ true → noted true table ≡ noted_at text at shape line words table
-    unfolding noted_at
-    in_table k = simp (eq-eqb shape 1 h, ← e, ← g, k)
-
-    module _ (k : f.there ≡ false) (full : Bool) (el : full ≡ leb most (count table)) where
-      pub table_full : full ≡ true → noted false table ≡ noted_at text at shape line words table
-      unfolding noted_at
-      table_full l = simp (eq-eqb shape 1 h, ← e, ← g, k, ← el, l)
-
-      pub put_in : full ≡ false → (new : List ℕ) → new ≡ inserted text table t.place line words → noted true new ≡ noted_at text at shape line words table
-      unfolding noted_at
-      put_in l new i = simp (eq-eqb shape 1 h, ← e, ← g, k, ← el, l, i)
-
 -- ---- what the table holds, and what lies ahead
 
-pub record Surveying (text table : List ℕ) (at line words : ℕ) : Type 0 where
+none_there : (o : Option Site) → is_some (found o) ≡ false → o ≡ none
+none_there (some s) e = clash refl e
+none_there none e = refl
+
+pub record Surveying (text : List ℕ) (table : Table) (at line words : ℕ) : Type 0 where
   pub fair : Fair text table
   pub known : (x : List ℕ) → first x (readings text) ≡ or_else (looked text table x) (ahead text x at line words)
 
-pub survey_starts : (text table : List ℕ) → table ≡ replicate 9217 0 → Surveying text table 0 0 0
+pub survey_starts : (text : List ℕ) (table : Table) → table ≡ empty → Surveying text table 0 0 0
 survey_starts text table e =
     rw e
     (record { fair = fair_empty text; known = λ x. sym (rw (looked_empty text x) (ahead_start text x)) })
 
-module _ (text table : List ℕ) (at line words : ℕ) (s : Surveying text table at line words) where
+module _ (text : List ℕ) (table : Table) (at line words : ℕ) (s : Surveying text table at line words) where
   pub survey_ends : length text < at → Surveyed text table true
   survey_ends h x = sym (s.known x ∙ ap (or_else (looked text table x)) (ahead_past text x at line words h))
 
@@ -76,7 +57,7 @@ module _ (text table : List ℕ) (at line words : ℕ) (s : Surveying text table
     abbrev y : List ℕ
     y = name_at text place
 
-    abbrev Behind : List ℕ → Type 0
+    abbrev Behind : Table → Type 0
     Behind new = Surveying text new (line_end text at + 1) (line + 1) (words + holds (reading (line_at text at)))
 
     -- the line defines no label, or one that the table has
@@ -118,23 +99,23 @@ module _ (text table : List ℕ) (at line words : ℕ) (s : Surveying text table
     abbrev Leaves : Noted → Type 0
     Leaves n = after n.on n.table
       where
-        after : Bool → List ℕ → Type 0
+        after : Bool → Table → Type 0
         after true new = Behind new
         after false new = Surveyed text new false
 
     leaves : Leaves (noted_at text at shape line words table)
     unfolding noted_at
-    leaves = go (eqb shape 1) refl (found (looked text table y)).there refl (leb most (count table)) refl
+    leaves = go (eqb shape 1) refl (is_some (found (looked text table y))) refl (leb most (count table)) refl
       where
-        go : (a : Bool) → eqb shape 1 ≡ a → (b : Bool) → (found (looked text table y)).there ≡ b → (c : Bool) → leb most (count table) ≡ c
+        go : (a : Bool) → eqb shape 1 ≡ a → (b : Bool) → is_some (found (looked text table y)) ≡ b → (c : Bool) → leb most (count table) ≡ c
             → Leaves (cond a (cond b (noted true table) (cond c (noted false table) (noted true (inserted text table place line words)))) (noted true table))
         go false a b eb c ec = passes (λ x e. sym (defines_none x (reading (line_at text at)) shape es (eqb-false shape 1 a)))
         go true a true eb c ec =
-            passes (other (eqb-true shape 1 a) (λ n. clash eb (ap (λ (o : Option Site). (found o).there) n)))
+            passes (other (eqb-true shape 1 a) (λ n. clash eb (ap (λ (o : Option Site). is_some (found o)) n)))
         go true a false eb true ec = survey_stops
-        go true a false eb false ec = stores (eqb-true shape 1 a) (absent (looked text table y) (found (looked text table y)) refl eb) (leb-false most (count table) ec)
+        go true a false eb false ec = stores (eqb-true shape 1 a) (none_there (looked text table y) eb) (leb-false most (count table) ec)
 
-    module _ (r : Bool) (new : List ℕ) (e : noted r new ≡ noted_at text at shape line words table) where
+    module _ (r : Bool) (new : Table) (e : noted r new ≡ noted_at text at shape line words table) where
       pub survey_full : not r ≡ true → Surveyed text new false
       survey_full n = go r (not-true r n) (subst Leaves (sym e) leaves)
         where

@@ -1,7 +1,10 @@
 -- What is seen of an assembly's outcome.
-use Rattle.std.specs.Prelude.{List, ℕ}
+use Rattle.std.specs.Prelude.{List, ℕ, Result, Ok, Err}
+use Rattle.common.specs.Answers as answer
+use Rattle.answers.specs.Numbers.{number}
 use Rattle.sources.specs.Meaning as meant
-use Rattle.assembler.specs.declared.Assembled.{Assembled}
+use Rattle.answers.specs.declared.Fault.{Fault}
 
-abbrev pub assembled_of : Assembled → List ℕ → meant.Assembled
-assembled_of r out = record { answer = r.answer; line = r.line; length = r.length; out = out }
+abbrev pub assembled_of : Result ℕ Fault → List ℕ → meant.Assembled
+assembled_of (Ok length) out = record { answer = answer.done; line = 0; length = length; out = out }
+assembled_of (Err fault) out = record { answer = number fault.refusal; line = fault.line; length = 0; out = out }

@@ -1,46 +1,54 @@
 // The first pass: every label's first line goes into the table.
-ghost use Rattle.std.specs.Prelude.{◌≡◌, replicate};
-ghost use Rattle.grammar.specs.Reading.Shapes.{shape_of};
+ghost use Rattle.std.specs.Prelude.{◌≡◌};
+ghost use Rattle.syntax.specs.Seen.{seen_shape};
+ghost use Rattle.label_table.specs.Table.{empty};
 ghost use Rattle.assembler.specs.Survey.{noted, noted_at, Surveyed};
 
-use label_table::SIZE;
+use answers::Refusal;
+use label_table::{Definition, Table};
+use syntax::Shape;
 
-// Puts the label of the line at a place into the table, with the lines and the words before it, if the line has a label that is not
-// there. False where the table is full.
-fn note(text: &[u8], table: &mut [u64; SIZE], at: usize, shape: u32, line: u64, words: u64) -> bool
-    ensures { noted result table.new ≡ noted_at text.now at shape line words table.old }
+// Puts the label of the line at a place into the table, with where the line is, if the line has a label that is not there. False where
+// the table is full.
+#[tactic(auto, unfolding(crate::specs::Survey::noted_at))]
+fn note(
+    text: &[u8],
+    table: &mut Table,
+    at: usize,
+    shape: Result<Shape, Refusal>,
+    here: Definition,
+) -> bool
+    ensures { noted result table.new ≡ noted_at text.now at (seen_shape shape) here.line here.words table.old }
 {
-    if shape != syntax::LABEL {
+    let Ok(Shape::Label) = shape else {
+        return true;
+    };
+    let place = tokens::token(text, at).place;
+    if table.find(text, place).is_some() {
         return true;
     }
-    let t = tokens::token(text, at);
-    let place = t.place;
-    let f = label_table::find(text, table, place);
-    if f.there {
-        return true;
-    }
-    if label_table::is_full(table) {
+    if table.is_full() {
         return false;
     }
-    label_table::insert(text, table, place, line, words);
+    table.insert(text, place, here);
     true
 }
 
-// Fills a table of zeros. Answers whether it holds every label: a table that is full holds the first of them.
-pub(crate) fn survey(text: &[u8], table: &mut [u64; SIZE]) -> bool
-    requires { table.old ≡ replicate 9217 0 }
+// Fills an empty table. Answers whether it holds every label: a table that is full holds the first of them.
+pub(crate) fn survey(text: &[u8], table: &mut Table) -> bool
+    requires { table.old ≡ empty }
     ensures { Surveyed text.now table.new result }
 {
     let mut at = 0;
-    let mut line: u64 = 0;
-    let mut words: u64 = 0;
+    let mut here = Definition { line: 0, words: 0 };
+    // kept: the new form is no plainer: each line begins behind the end of the one before, which a call tells
     while at <= text.len() {
         let shape = syntax::shape(text, at);
-        if !note(text, table, at, shape, line, words) {
+        if !note(text, table, at, shape, here) {
             return false;
         }
-        words += labels::held(shape);
-        line += 1;
+        here.line += 1;
+        here.words += labels::held(shape);
         at = tokens::line_end(text, at) + 1;
     }
     true

@@ -1,10 +1,11 @@
 // The word that a line of the grammar holds.
 ghost use Rattle.std.specs.Prelude.{◌≡◌};
 ghost use Rattle.labels.specs.Locating.{located};
-ghost use Rattle.assembler.specs.Holding.{register_at, past_comma, operand_at, coded, completed, constant_at, branch_at, one_at, two_at, three_at, datum_at, word_at};
+ghost use Rattle.assembler.specs.Holding.{register_at, past_comma, operand_at, coded, constant_at, branch_at, one_at, two_at, three_at, datum_at, word_at};
 
-use label_table::SIZE;
-use values::Fitted;
+use answers::Refusal;
+use expressions::Line;
+use tokens::Kind;
 
 // How deep brackets go.
 const DEEPEST: u32 = 16;
@@ -20,9 +21,8 @@ fn register(text: &[u8], at: usize) -> Operand
     ensures { result ≡ register_at text.now at }
 {
     let t = tokens::token(text, at);
-    let value = t.value;
     Operand {
-        register: (value % 16) as u32,
+        register: (t.value % 16) as u32,
         next: t.next,
     }
 }
@@ -32,77 +32,55 @@ fn past_comma(text: &[u8], at: usize) -> usize
     ensures { result ≡ past_comma text.now at }
 {
     let t = tokens::token(text, at);
-    if t.kind == tokens::COMMA {
-        return t.next;
-    }
-    at
+    if t.kind == Kind::Comma { t.next } else { at }
 }
 
 // A register that a comma may precede.
 fn next_register(text: &[u8], at: usize) -> Operand
     ensures { result ≡ operand_at text.now at }
 {
-    let p = past_comma(text, at);
-    register(text, p)
+    register(text, past_comma(text, at))
 }
 
 // An instruction's word.
-fn coded(op: u32, a: u32, b: u32, low: u32) -> Fitted
+fn coded(op: u32, a: u32, b: u32, low: u32) -> Result<u32, Refusal>
     ensures { result ≡ coded op a b low }
 {
-    let e = instructions::encode(op, a, b, low);
-    Fitted {
-        answer: answers::DONE,
-        low: e.word,
-    }
-}
-
-// The word of an instruction with a register and a value, if the value has its field.
-fn completed(op: u32, a: u32, f: Fitted) -> Fitted
-    ensures { result ≡ completed op a f }
-{
-    if f.answer != answers::DONE {
-        return f;
-    }
-    coded(op, a, 0, f.low)
+    instructions::encode(op, a, b, low)
 }
 
 // Const: an expression, then a register.
-fn constant(
-    text: &[u8],
-    table: &[u64; SIZE],
-    complete: bool,
-    dot: u64,
-    op: u32,
-    at: usize,
-) -> Fitted
-    ensures { result ≡ constant_at text.now (located text.now table.now complete) dot op at }
+#[tactic(auto, unfolding(crate::specs::Holding::constant_at))]
+fn constant(line: &Line, op: u32, at: usize) -> Result<u32, Refusal>
+    ensures { result ≡ constant_at line.now.labels.text.now (located line.now.labels.text.now line.now.labels.table.now line.now.labels.complete) line.now.dot op at }
 {
-    let e = expressions::expression(text, table, complete, dot, at, DEEPEST);
-    let f = values::fit(e.value, 0, 65535, 65536);
-    let d = next_register(text, e.next);
-    completed(op, d.register, f)
+    let read = line.expression(at, DEEPEST)?;
+    let low = values::fit(read.value, 0, 65535, 65536)?;
+    let d = next_register(line.labels.text, read.next);
+    coded(op, d.register, 0, low)
 }
 
 // Bnz: a register, then an expression.
-fn branch(text: &[u8], table: &[u64; SIZE], complete: bool, dot: u64, op: u32, at: usize) -> Fitted
-    ensures { result ≡ branch_at text.now (located text.now table.now complete) dot op at }
+#[tactic(auto, unfolding(crate::specs::Holding::branch_at))]
+fn branch(line: &Line, op: u32, at: usize) -> Result<u32, Refusal>
+    ensures { result ≡ branch_at line.now.labels.text.now (located line.now.labels.text.now line.now.labels.table.now line.now.labels.complete) line.now.dot op at }
 {
-    let a = register(text, at);
-    let p = past_comma(text, a.next);
-    let e = expressions::expression(text, table, complete, dot, p, DEEPEST);
-    let f = values::fit(e.value, 32768, 32767, 65536);
-    completed(op, a.register, f)
+    let a = register(line.labels.text, at);
+    let read = line.expression(past_comma(line.labels.text, a.next), DEEPEST)?;
+    let low = values::fit(read.value, 32768, 32767, 65536)?;
+    coded(op, a.register, 0, low)
 }
 
-fn one(text: &[u8], op: u32, at: usize) -> Fitted
+#[tactic(auto, unfolding(crate::specs::Holding::one_at))]
+fn one(text: &[u8], op: u32, at: usize) -> Result<u32, Refusal>
     ensures { result ≡ one_at text.now op at }
 {
     let a = register(text, at);
     coded(op, a.register, 0, 0)
 }
 
-fn two(text: &[u8], op: u32, at: usize) -> Fitted
+#[tactic(auto, unfolding(crate::specs::Holding::two_at))]
+fn two(text: &[u8], op: u32, at: usize) -> Result<u32, Refusal>
     ensures { result ≡ two_at text.now op at }
 {
     let a = register(text, at);
@@ -110,7 +88,8 @@ fn two(text: &[u8], op: u32, at: usize) -> Fitted
     coded(op, a.register, b.register, 0)
 }
 
-fn three(text: &[u8], op: u32, at: usize) -> Fitted
+#[tactic(auto, unfolding(crate::specs::Holding::three_at))]
+fn three(text: &[u8], op: u32, at: usize) -> Result<u32, Refusal>
     ensures { result ≡ three_at text.now op at }
 {
     let a = register(text, at);
@@ -120,39 +99,28 @@ fn three(text: &[u8], op: u32, at: usize) -> Fitted
 }
 
 // A data word.
-fn datum(text: &[u8], table: &[u64; SIZE], complete: bool, dot: u64, at: usize) -> Fitted
-    ensures { result ≡ datum_at text.now (located text.now table.now complete) dot at }
+#[tactic(auto, unfolding(crate::specs::Holding::datum_at))]
+fn datum(line: &Line, at: usize) -> Result<u32, Refusal>
+    ensures { result ≡ datum_at line.now.labels.text.now (located line.now.labels.text.now line.now.labels.table.now line.now.labels.complete) line.now.dot at }
 {
-    let e = expressions::expression(text, table, complete, dot, at, DEEPEST);
-    values::fit(e.value, 0, 4294967295, 4294967296)
+    let read = line.expression(at, DEEPEST)?;
+    values::fit(read.value, 0, 4294967295, 4294967296)
 }
 
-// The word of the line at a place, whose own address is `dot`: answer 0 and the word, or 51 or 53 and 0.
-pub(crate) fn word(text: &[u8], table: &[u64; SIZE], complete: bool, dot: u64, at: usize) -> Fitted
-    ensures { result ≡ word_at text.now (located text.now table.now complete) dot at }
+// The word of the line at a place.
+pub(crate) fn word(line: &Line, at: usize) -> Result<u32, Refusal>
+    ensures { result ≡ word_at line.now.labels.text.now (located line.now.labels.text.now line.now.labels.table.now line.now.labels.complete) line.now.dot at }
 {
+    let text = line.labels.text;
     let t = tokens::token(text, at);
-    let kind = t.kind;
-    let next = t.next;
-    let value = t.value;
-    let op = (value % 16) as u32;
-    if kind == tokens::PLAIN {
-        return coded(op, 0, 0, 0);
+    let op = (t.value % 16) as u32;
+    match t.kind {
+        Kind::Plain => coded(op, 0, 0, 0),
+        Kind::Const => constant(line, op, t.next),
+        Kind::Bnz => branch(line, op, t.next),
+        Kind::One => one(text, op, t.next),
+        Kind::Two => two(text, op, t.next),
+        Kind::Three => three(text, op, t.next),
+        _ => datum(line, at),
     }
-    if kind == tokens::CONST {
-        return constant(text, table, complete, dot, op, next);
-    }
-    if kind == tokens::BNZ {
-        return branch(text, table, complete, dot, op, next);
-    }
-    if kind == tokens::ONE {
-        return one(text, op, next);
-    }
-    if kind == tokens::TWO {
-        return two(text, op, next);
-    }
-    if kind == tokens::THREE {
-        return three(text, op, next);
-    }
-    datum(text, table, complete, dot, at)
 }

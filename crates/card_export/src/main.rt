@@ -2,20 +2,20 @@
 // nothing else there. What went wrong goes to standard error: `refused N`, or a sentence; and so does what the format cannot say.
 #![tactic(auto)]
 
-fn write_text(rt: HostRuntime, words: &[u32]) {
-    let mut text = [0u8; 22540];
-    let e = exporter::export(words, &mut text);
-    let n = streams::within(e.length, &text);
-    let moved = streams::write_all(&mut rt.stdout(), &text[..n]);
-    if moved.failed {
-        image_input::say(rt, b"the text could not be written\n");
+use answers::Refusal;
+use image_input::{Form, write_words};
+
+// A text of Intel HEX.
+struct Hex;
+
+impl Form for Hex {
+    const NAME: &'static str = "text";
+
+    fn put(words: &[u32], out: &mut [u8]) -> Result<usize, Refusal> {
+        exporter::export(words, out)
     }
 }
 
 fn main(rt: HostRuntime) {
-    let mut words = [0u32; 2048];
-    let n = image_input::read_words(rt, &mut words);
-    if 0 < n {
-        write_text(rt, &words[..n]);
-    }
+    write_words::<Hex>(rt, &mut [0; 22540]);
 }

@@ -3,91 +3,44 @@
 // sentence.
 #![tactic(auto)]
 
-ghost use Rattle.std.specs.Prelude.{◌≤◌};
-
+use answers::Fault;
+use image_output::{Text, write_image};
 use std::env::FillError;
 use std::rt::Env;
 
-// The longest text that it takes, in bytes.
-const MOST: usize = 262144;
-
-// Whatever is larger is told as this: no memory reaches so far.
-const LARGEST: u64 = 4294967295;
-
-fn say(rt: HostRuntime, text: &[u8]) {
-    streams::write_all(&mut rt.stderr(), text);
-}
-
-fn refuse(rt: HostRuntime, answer: u32, line: u64) {
-    say(rt, b"refused ");
-    let _ = rt.stderr().print(answer);
-    say(rt, b" line ");
-    let _ = rt.stderr().print(line);
-    say(rt, b"\n");
-}
-
-// A number with one digit more; any other byte makes it the largest.
-fn with_digit(value: u64, b: u8) -> u64
-    requires { value ≤ 4294967295 }
-    ensures { result ≤ 4294967295 }
-{
-    if b < 48 {
-        return LARGEST;
-    }
-    if b > 57 {
-        return LARGEST;
-    }
-    let next = 10 * value + (b - 48) as u64;
-    if next < LARGEST { next } else { LARGEST }
-}
-
+// A number of decimal digits; a larger one is told as the largest, and so is what is none: no memory reaches so far.
 fn number(digits: &[u8]) -> u32 {
-    let mut value: u64 = 0;
-    let mut i = 0;
-    while i < digits.len() {
-        value = with_digit(value, digits[i]);
-        i += 1;
-    }
-    value as u32
+    digits.iter().fold(0, |value, b| match b {
+        b'0'..=b'9' => value.saturating_mul(10).saturating_add((*b - b'0') as u32),
+        _ => u32::MAX,
+    })
 }
 
 // The entry that is asked for.
 fn entry(rt: HostRuntime) -> u32 {
-    let mut digits = [0u8; 16];
+    let mut digits = [0; 16];
     match rt.arg(1, &mut digits) {
         Ok(n) => number(&digits[..n]),
         Err(FillError::NotPresent) => 0,
-        Err(FillError::TooLong) => LARGEST as u32,
+        Err(FillError::TooLong) => u32::MAX,
     }
 }
 
-fn import(rt: HostRuntime, text: &[u8], entry: u32) {
-    let mut image = [0u8; 8272];
-    let regs = [0u32; 16];
-    let i = importer::import(text, &regs, entry, &mut image);
-    let answer = i.answer;
-    if answer != answers::DONE {
-        refuse(rt, answer, i.line);
-        return;
-    }
-    let n = streams::within(i.length, &image);
-    let moved = streams::write_all(&mut rt.stdout(), &image[..n]);
-    if moved.failed {
-        say(rt, b"the image could not be written\n");
+// A text of Intel HEX, and the entry of its image.
+#[derive(Clone, Copy)]
+struct Hex {
+    entry: u32,
+}
+
+impl Text for Hex {
+    const NAME: &'static str = "text";
+
+    fn make(&self, text: &[u8], image: &mut [u8]) -> Result<usize, Fault> {
+        importer::import(text, &[0; 16], self.entry, image)
     }
 }
 
 fn main(rt: HostRuntime) {
-    let mut text = streams::source_buffer();
-    let got = streams::read_all(&mut rt.stdin(), &mut text);
-    if got.failed {
-        say(rt, b"the text could not be read\n");
-        return;
-    }
-    let n = got.count;
-    if n > MOST {
-        say(rt, b"the text is longer than 262,144 bytes\n");
-        return;
-    }
-    import(rt, &text[..n], entry(rt));
+    let entry = entry(rt);
+    write_image(rt, &Hex { entry });
 }

@@ -2,67 +2,20 @@
 ghost use Rattle.std.specs.Prelude.{◌≤◌, ◌<◌};
 
 use crate::reading;
+use crate::reading::{byte_at, digit};
 
 pub(crate) const ROOM: usize = 8280;
 
-// How long the image is, and where the next bytes go.
-#[derive(Clone, Copy)]
+// No case has more words in a memory, nor more numbers on a line.
+pub(crate) const MOST: usize = 2050;
+
+// The bytes, how many of them are the image, and where the next are put.
+#[derive(Drop)]
 pub(crate) struct Image {
-    pub length: usize,
-    pub place: usize,
-}
-
-pub(crate) fn reaching(length: usize, place: usize) -> Image {
-    Image {
-        length: reading::within(length, ROOM),
-        place: reading::within(place, ROOM),
-    }
-}
-
-// After bytes were put from the image's place on.
-fn grown(i: Image, count: usize) -> Image {
-    let end = reading::within(i.place, ROOM) + reading::within(count, ROOM);
-    if end < i.length {
-        return reaching(i.length, end);
-    }
-    reaching(end, end)
-}
-
-fn put(bytes: &mut [u8], at: usize, value: u8) {
-    if at < bytes.len() {
-        bytes[at] = value;
-    }
-}
-
-// The value of two hexadecimal digits.
-fn pair(text: &[u8], at: usize) -> u8 {
-    let at = at % 65536;
-    let high = reading::digit(reading::byte_at(text, at));
-    let low = reading::digit(reading::byte_at(text, at + 1));
-    ((high * 16 + low) % 256) as u8
-}
-
-// How many pairs of digits stand at a place, 16 at most.
-fn pairs(text: &[u8], at: usize) -> usize
-    ensures { result ≤ 16 }
-{
-    let mut count = 0;
-    while count < 16 {
-        if reading::digit(reading::byte_at(text, at % 65536 + 2 * count)) == 16 {
-            return count;
-        }
-        count += 1;
-    }
-    count
-}
-
-// Which pair of a number's digits is byte k: the last pair is the lowest byte.
-fn pair_of(size: usize, k: usize) -> usize
-    requires { 0 < size }
-    ensures { result ≤ size }
-{
-    let i = k % size;
-    if i < size { size - 1 - i } else { 0 }
+    bytes: [u8; ROOM],
+    length: usize,
+    place: usize,
+    ghost in_room: { (length ≤ 8280) × (place ≤ 8280) },
 }
 
 // The words that images are filled with.
@@ -70,91 +23,97 @@ pub(crate) fn word(i: usize) -> u32 {
     (i % 2048 * 2000003 + 16909060) as u32
 }
 
-fn byte_of(word: u32, k: usize) -> u8 {
-    let quarter = k % 4;
-    if quarter == 0 {
-        return (word % 256) as u8;
-    }
-    if quarter == 1 {
-        return (word / 256 % 256) as u8;
-    }
-    if quarter == 2 {
-        return (word / 65536 % 256) as u8;
-    }
-    (word / 16777216) as u8
-}
-
-// Byte k of a number of `size` bytes, lowest byte first, over and over; of the words above where there is no number.
-fn byte_given(text: &[u8], at: usize, size: usize, k: usize) -> u8
-    requires { size ≤ 16 }
+// The value of the two hexadecimal digits at a place; one that is none counts 16.
+fn pair(text: &[u8], at: usize) -> u8
+    requires { at < 65536 }
 {
-    if size == 0 {
-        return byte_of(word(k / 4), k);
-    }
-    pair(text, at % 65536 + 2 * pair_of(size, k))
+    let high = digit(byte_at(text, at)).unwrap_or(16) as u16;
+    let low = digit(byte_at(text, at + 1)).unwrap_or(16) as u16;
+    ((high * 16 + low) % 256) as u8
 }
 
-// Puts so many bytes of a number in.
-fn put_bytes(text: &[u8], at: usize, size: usize, bytes: &mut [u8], place: usize, count: usize)
-    requires { (size ≤ 16) × (place ≤ 8280) }
+// How many pairs of digits stand in front, 16 at most.
+fn pairs(text: &[u8]) -> usize
+    ensures { result ≤ 16 }
 {
-    let mut k = 0;
-    while k < count {
-        put(bytes, place + k % 8280, byte_given(text, at, size, k));
-        k += 1;
-    }
+    (0..16usize)
+        .take_while(|k| digit(byte_at(text, 2 * *k)).is_some())
+        .count()
 }
 
-// How many bytes a number gives: a star and how many of it may follow one of four or eight bytes.
-fn bytes_given(text: &[u8], star: usize, size: usize) -> usize
-    requires { star ≤ 65568 }
-{
-    if reading::byte_at(text, star) != 42 {
-        return size;
+impl Image {
+    pub(crate) fn new() -> Self {
+        Image {
+            bytes: [0; ROOM],
+            length: 0,
+            place: 0,
+        }
     }
-    let n = reading::read_numbers(text, star + 1);
-    let times = reading::within(n.first, 2050);
-    if size == 8 {
-        return 8 * times;
+
+    pub(crate) fn bytes(&self) -> &[u8] {
+        &self.bytes[..self.length]
     }
-    4 * times
-}
 
-// A line that does not begin with a number gives no bytes.
-pub(crate) fn put_line(text: &[u8], at: usize, bytes: &mut [u8], i: Image) -> Image {
-    let size = pairs(text, at);
-    if size == 0 {
-        return i;
+    // Says where the image ends, and where the next bytes are put.
+    pub(crate) fn reach(&mut self, length: usize, place: usize) {
+        self.length = length.min(ROOM);
+        self.place = place.min(ROOM);
     }
-    let count = bytes_given(text, at % 65536 + 2 * size, size);
-    put_bytes(text, at, size, bytes, reading::within(i.place, ROOM), count);
-    grown(i, count)
-}
 
-// So many words at the image's place.
-pub(crate) fn fill(bytes: &mut [u8], i: Image, words: usize) -> Image {
-    let count = 4 * reading::within(words, 2050);
-    put_bytes(b" ", 0, 0, bytes, reading::within(i.place, ROOM), count);
-    grown(i, count)
-}
+    // The next bytes are put at this word.
+    pub(crate) fn turn_to(&mut self, word: usize) {
+        self.reach(self.length, 4 + 4 * (word % 4096));
+    }
 
-// Four bytes, lowest first.
-fn word_at(bytes: &[u8], at: usize) -> u32 {
-    let at = at % 8280;
-    let b0 = reading::byte_at(bytes, at) as u32;
-    let b1 = reading::byte_at(bytes, at + 1) as u32;
-    let b2 = reading::byte_at(bytes, at + 2) as u32;
-    let b3 = reading::byte_at(bytes, at + 3) as u32;
-    b0 + b1 * 256 + b2 * 65536 + b3 * 16777216
+    // Puts the bytes that `given` tells, in order; what has no room comes from the image's place on again.
+    fn put<F: Fn(usize) -> u8>(&mut self, count: usize, given: F)
+        requires { F.IsAlwaysCallable given }
+    {
+        for k in 0..count {
+            let at = self.place + k % ROOM;
+            if at < ROOM {
+                self.bytes[at] = given(k);
+            }
+        }
+        let end = self.place + count.min(ROOM);
+        self.reach(self.length.max(end), end);
+    }
+
+    // The number at the front of a line, in hexadecimal, lowest byte first; so many of it where a star and how many follow one of four or
+    // eight bytes. Another line gives no bytes.
+    pub(crate) fn put_line(&mut self, line: &[u8]) {
+        let size = pairs(line);
+        if size == 0 {
+            return;
+        }
+        let last = size - 1;
+        let count = match line.get(2 * size..) {
+            Some([b'*', behind @ ..]) => {
+                let times = reading::first_number(behind).min(MOST);
+                if size == 8 { 8 * times } else { 4 * times }
+            }
+            _ => size,
+        };
+        self.put(count, |k| pair(line, 2 * (last - k % (last + 1))));
+    }
+
+    // So many words at the image's place.
+    pub(crate) fn fill(&mut self, words: usize) {
+        self.put(4 * words.min(MOST), |k| word(k / 4).to_le_bytes()[k % 4]);
+    }
 }
 
 // The first sixteen words.
 pub(crate) fn sixteen(bytes: &[u8]) -> [u32; 16] {
     let mut values = [0u32; 16];
-    let mut k = 0;
-    while k < 16 {
-        values[k] = word_at(bytes, 4 * k);
-        k += 1;
+    for (k, value) in values.iter_mut().enumerate() {
+        let at = 4 * k;
+        *value = u32::from_le_bytes([
+            byte_at(bytes, at),
+            byte_at(bytes, at + 1),
+            byte_at(bytes, at + 2),
+            byte_at(bytes, at + 3),
+        ]);
     }
     values
 }

@@ -13,7 +13,6 @@ mod writing;
 // Runs the cases on standard input.
 pub fn run_input(rt: HostRuntime) {
     let mut text = [0u8; 65536];
-    let got = streams::read_all(&mut rt.stdin(), &mut text);
-    let n = got.count;
+    let n = streams::read_all(&mut rt.stdin(), &mut text).unwrap_or_else(|cut| cut.count);
     lines::run_lines(rt, &text[..n]);
 }

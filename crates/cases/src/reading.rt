@@ -1,95 +1,56 @@
-// Bytes, numbers and marks of a text. What is asked past its end is 0.
-ghost use Rattle.std.specs.Prelude.{◌≤◌, ◌<◌};
+// The bytes, names and numbers of a text of cases, from a place on. What is asked past its end is 0.
+ghost use Rattle.std.specs.Prelude.{◌≤◌, ◌<◌, length};
 
-// No more than `most`.
-pub(crate) fn within(n: usize, most: usize) -> usize
-    ensures { result ≤ most }
-{
-    if n < most { n } else { most }
+// The value of a hexadecimal digit.
+pub(crate) fn digit(b: u8) -> Option<u8> {
+    match b {
+        b'0'..=b'9' => Some(b - b'0'),
+        b'A'..=b'F' => Some(b - b'A' + 10),
+        _ => None,
+    }
 }
 
 pub(crate) fn byte_at(text: &[u8], i: usize) -> u8 {
-    if i < text.len() { text[i] } else { 0 }
+    text.get(i).copied().unwrap_or(0)
 }
 
-// A hexadecimal digit's value, or 16.
-pub(crate) fn digit(b: u8) -> u64
-    ensures { result ≤ 16 }
+// How many bytes a text has up to the first that is not above `last`, and that one with them; or all.
+pub(crate) fn through(text: &[u8], last: u8) -> usize
+    ensures within { result ≤ length text.now }
+    ensures moves { 0 < length text.now → 0 < result }
 {
-    if b < 48 {
-        return 16;
+    match text.iter().position(|b| *b <= last) {
+        Some(i) => i + 1,
+        None => text.len(),
     }
-    if b < 58 {
-        return (b - 48) as u64;
-    }
-    if b < 65 {
-        return 16;
-    }
-    if b < 71 {
-        return (b - 55) as u64;
-    }
-    16
 }
 
-// The place after the first byte from `at` on that is not above `last`, or the text's end.
-pub(crate) fn past(text: &[u8], at: usize, last: u8) -> usize {
-    let mut i = at;
-    while i < text.len() {
-        let b = text[i];
-        i += 1;
-        if b <= last {
-            return i;
-        }
-    }
-    i
-}
-
-#[derive(Clone, Copy)]
-struct Number {
-    value: usize,
-    // the place after the byte that ended it
-    next: usize,
-}
-
-// A decimal number below 2^32.
-fn read_number(text: &[u8], at: usize) -> Number {
+// A decimal number below 2^32, and the text behind the byte that ends it.
+fn number(text: &[u8]) -> (usize, &[u8]) {
     let mut value: u64 = 0;
-    let mut i = at;
-    while i < text.len() {
-        let d = digit(text[i]);
-        i += 1;
-        if d > 9 {
-            break;
+    for (i, b) in text.iter().enumerate() {
+        match digit(*b) {
+            Some(d) if d < 10 => value = value % 4294967296 * 10 + d as u64,
+            _ => return ((value % 4294967296) as usize, &text[i + 1..]),
         }
-        value = value % 4294967296 * 10 + d;
     }
-    Number {
-        value: (value % 4294967296) as usize,
-        next: i,
-    }
+    ((value % 4294967296) as usize, &text[text.len()..])
+}
+
+// The first number of a line.
+pub(crate) fn first_number(text: &[u8]) -> usize {
+    let (value, _) = number(text);
+    value
 }
 
 // Five numbers of a line. One that has fewer leaves the rest without meaning.
-#[derive(Clone, Copy)]
-pub(crate) struct Numbers {
-    pub first: usize,
-    pub second: usize,
-    pub third: usize,
-    pub fourth: usize,
-    pub fifth: usize,
-}
-
-pub(crate) fn read_numbers(text: &[u8], at: usize) -> Numbers {
-    let one = read_number(text, at);
-    let two = read_number(text, one.next);
-    let three = read_number(text, two.next);
-    let four = read_number(text, three.next);
-    let five = read_number(text, four.next);
-    Numbers {
-        first: one.value,
-        second: two.value,
-        third: three.value,
-        fourth: four.value,
-        fifth: five.value,
+pub(crate) fn numbers(text: &[u8]) -> [usize; 5] {
+    let mut values = [0; 5];
+    let mut rest = text;
+    for value in values.iter_mut() {
+        let (read, behind) = number(rest);
+        *value = read;
+        rest = behind;
     }
+    values
 }

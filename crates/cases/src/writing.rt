@@ -1,95 +1,56 @@
 // The writer's cases: what it writes is loaded, and what was loaded is written again.
-use crate::reading::Numbers;
-use crate::{image, loading, reading, showing};
+use crate::image::{MOST, ROOM, sixteen, word};
+use crate::loading;
+use crate::showing::sum;
 use machine::Processor;
-use writer::Written;
 
-// Whether two lists of bytes are equal.
-fn same(one: &[u8], other: &[u8]) -> bool {
-    if one.len() != other.len() {
-        return false;
-    }
-    let mut i = 0;
-    while i < one.len() {
-        if one[i] != other[i] {
-            return false;
-        }
-        i += 1;
-    }
-    true
-}
+// What a buffer for images holds before a write.
+const MARK: u8 = 170;
 
-fn row(w: Written, third: u64, fourth: u64) -> [u64; 13] {
-    [
-        w.answer as u64,
-        w.length as u64,
-        third,
-        fourth,
-        0,
-        0,
-        0,
-        0,
-        0,
-        0,
-        0,
-        0,
-        0,
-    ]
-}
-
-// Writes words, and compares: the same bytes as these, and the room beyond them as it was.
-fn rewritten(bytes: &[u8], words: &[u32], regs: &[u32; 16], entry: u32) -> [u64; 13] {
-    let room = [170u8; 8280];
-    let mut out = [170u8; 8280];
-    let w = writer::write(words, regs, entry, &mut out);
-    let length = reading::within(w.length, 8280);
-    row(
-        w,
-        same(bytes, &out[..length]) as u64,
-        same(&room[length..], &out[length..]) as u64,
-    )
-}
-
-// The words and the record that an image was loaded into.
+// The words and the record that an image was loaded into, written again: whether they are the same bytes, and the room beyond them as it
+// was.
 pub(crate) fn show_rewritten(rt: HostRuntime, bytes: &[u8], words: &[u32], cpu: Processor) {
     let regs = cpu.regs;
-    let n = reading::within(cpu.n as usize, words.len());
-    showing::show(
-        rt,
-        b" answer # length # same # kept #\n",
-        rewritten(bytes, &words[..n], &regs, cpu.pc),
+    let n = words.len().min(cpu.n as usize);
+    let mut out = [MARK; ROOM];
+    let w = writer::write(&words[..n], &regs, cpu.pc, &mut out);
+    let length = w.unwrap_or(0).min(ROOM);
+    let same = bytes == &out[..length];
+    let kept = out[length..].iter().all(|b| *b == MARK);
+    let _ = println!(rt;
+        " answer {} length {} same {} kept {}",
+        answers::answer_of(&w),
+        w.unwrap_or(0),
+        same as u8,
+        kept as u8
     );
-}
-
-// The words that images are filled with.
-fn fill_words(words: &mut [u32]) {
-    let mut i = 0;
-    while i < words.len() {
-        words[i] = image::word(i);
-        i += 1;
-    }
 }
 
 // Write, then load into memories of as many places.
 fn show_back(rt: HostRuntime, words: &[u32], regs: &[u32; 16], entry: u32, out: &mut [u8]) {
     let w = writer::write(words, regs, entry, out);
-    showing::show(
-        rt,
-        b" answer # length # out #\nback",
-        row(w, showing::sum_of_bytes(out), 0),
+    let _ = print!(rt;
+        " answer {} length {} out {}\nback",
+        answers::answer_of(&w),
+        w.unwrap_or(0),
+        sum(out)
     );
-    let length = reading::within(w.length, out.len());
-    loading::show_loaded(rt, false, &out[..length], loading::equal(words.len()));
+    let length = out.len().min(w.unwrap_or(0));
+    loading::show_loaded(rt, false, &out[..length], [words.len(); 5]);
 }
 
 // The registers are the bytes' first sixteen words; how many words, the entry and the room are handed in.
-pub(crate) fn show_written(rt: HostRuntime, bytes: &[u8], given: Numbers) {
-    let n = reading::within(given.first, 2050);
-    let entry = (given.second % 4294967296) as u32;
-    let room = reading::within(given.third, 8280);
-    let regs = image::sixteen(bytes);
-    let mut words = [0u32; 2050];
-    fill_words(&mut words);
-    let mut out = [170u8; 8280];
-    show_back(rt, &words[..n], &regs, entry, &mut out[..room]);
+pub(crate) fn show_written(rt: HostRuntime, bytes: &[u8], given: [usize; 5]) {
+    let mut words = [0u32; MOST];
+    for (i, w) in words.iter_mut().enumerate() {
+        *w = word(i);
+    }
+    let mut out = [MARK; ROOM];
+    show_back(
+        rt,
+        &words[..given[0].min(MOST)],
+        &sixteen(bytes),
+        (given[1] % 4294967296) as u32,
+        &mut out[..given[2].min(ROOM)],
+    );
 }

@@ -11,8 +11,11 @@ use Rattle.instructions.proofs.decode.Reads as decode
 use Rattle.instructions.proofs.encode.Reads as encode
 use Rattle.machine.proofs.Processor.step.Reads as step_of_lem
 use Rattle.machine.proofs.Processor.run.Reads as run_of
+use Rattle.answers.specs.Numbers.{answer_of}
+use Rattle.reader.specs.Views.{checked_of}
 use Rattle.loader.proofs.load.Reads as load
 use Rattle.reader.proofs.check.Reads as check
+use Rattle.writer.specs.Views.{written_of}
 use Rattle.writer.proofs.write.Reads as write
 use Rattle.host.specs.Views.{DecodeOutcome, decoded_by}
 use Rattle.host.proofs.kl_check.Reads as kl-check
@@ -38,7 +41,7 @@ abbrev pub by_load : Promise load.Post (Bool × List ℕ × State) images.Loaded
 by_load =
     record {
       given = λ κs a. (a.0, a.1.0.now, memories a.1.1);
-      left = λ κs r s. record { answer = r.answer; state = over r.cpu s.1.1 };
+      left = λ κs r s. record { answer = answer_of r.answer; state = over r.cpu s.1.1 };
       meant = λ i. images.load i.0 i.1 i.2;
       says = λ κs a r s h. h;
     }
@@ -47,7 +50,7 @@ abbrev pub by_check : Promise check.Post (List ℕ) images.Checked
 by_check =
     record {
       given = λ κs a. a.0.now;
-      left = λ κs r s. record { answer = r.answer; size = r.size };
+      left = λ κs r s. checked_of r;
       meant = images.check;
       says = λ κs a r s h. h;
     }
@@ -86,7 +89,7 @@ abbrev pub by_write : Promise write.Post (List ℕ × List ℕ × ℕ × List �
 by_write =
     record {
       given = λ κs a. (a.0.now, a.1.0.now, a.1.1.0, a.1.1.1.0.now);
-      left = λ κs r s. record { answer = r.answer; length = r.length; out = s.1.1.1.0.now };
+      left = λ κs r s. written_of r s.1.1.1.0.now;
       meant = λ i. images.write i.0 i.1 i.2 i.3;
       says = λ κs a r s h. h;
     }

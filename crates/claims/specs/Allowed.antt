@@ -1,16 +1,6 @@
 -- How a claim names a contract: what its `ensures` says of an outcome, the outcomes that it allows, and that two of them are the same.
 use Rattle.std.specs.Prelude.{◌≡◌, refl}
 use Rattle.std.proofs.Common.{sym, ap, ◌∙◌}
-use seplogic.Ra.Ura.{Ura}
-use base.Logic.{SProp}
-use prog.Memory.{Memory}
-use prog.Routine.{Routine}
-use types.Logic.{Logic}
-use contract.Monad.{Fun, fact}
-use contract.Lifetimes.{Lfts}
-use denote.Triple.Entry.{Args, Res}
-use denote.Triple.Clauses.{Ended, AtExit, Clauses}
-use borrow.Fn.World.{World, Pr}
 
 -- ---- a contract is named by its plain reading, `post κs a r s`: of the lifetimes, the arguments, the result and the parameters at exit
 
@@ -50,27 +40,3 @@ same h k = h ∙ sym k
 
 pub same_by : {X Y : Type 0} (back : X → Y) {x y z : X} → x ≡ z → y ≡ z → back x ≡ back y
 same_by back h k = ap back (same h k)
-
--- ---- for a call that is lent the record, the plain reading from its `clauses`: they can be named, and its `ensures` is one fact
-
--- an assertion that is one plain fact, the same in every model
-pub record Fact (P : (w : World) → Pr w) : Type 2 where
-  pub says : Type 0
-  pub is : (w : World) → P w ≡ fact w.𝓤 says
-
--- the type of a contract's plain reading
-abbrev pub Plain : Ended → Type 1
-Plain T = (κs : Lfts T.signature.lifetimes) → Args T.signature κs → Res T.signature κs → AtExit T κs → Type 0
-
-module _ (T : Ended) (clauses : (M : Type 1) (𝓤 : Ura M) → (𝓛 : Logic 𝓤) → (Memory → SProp 𝓤) → (Routine → Fun 𝓤) → Clauses 𝓤 T) where
-  -- the contract in a model
-  abbrev there : (w : World) → Clauses w.𝓤 T
-  there w = clauses w.M w.𝓤 w.𝓛 w.𝓜.mem w.𝓡.returns
-
-  module _ (ghost : (κs : Lfts T.signature.lifetimes) (a : Args T.signature κs) (w : World) → (there w κs a).ghost) where
-    -- the plain reading of its `ensures`
-    abbrev pub read :
-        ((κs : Lfts T.signature.lifetimes) (a : Args T.signature κs) (r : Res T.signature κs) (s : AtExit T κs)
-        → Fact (λ w. (there w κs a).ensures (ghost κs a w) r s))
-        → Plain T
-    read says κs a r s = (says κs a r s).says

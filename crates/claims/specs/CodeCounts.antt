@@ -16,8 +16,11 @@ use Rattle.report.proofs.owned.Reads as owned-of
 use Rattle.report.proofs.jumps.Reads as jumps-of
 use Rattle.report.proofs.stores.Reads as stores-of
 use Rattle.report.proofs.widest.Reads as widest_of
+use Rattle.host.proofs.kl_owned.Reads as kl-owned
+use Rattle.host.proofs.kl_jumps.Reads as kl-jumps
+use Rattle.host.proofs.kl_stores.Reads as kl-stores
+use Rattle.host.proofs.kl_widest.Reads as kl-widest
 use Rattle.claims.specs.Allowed.{Promise, Allows, allowed}
-use Rattle.claims.specs.HostContracts as kl
 
 -- ---- what the contracts say, of the record, the memory and the number; of the widest, the record, the owners and the sets
 
@@ -72,29 +75,29 @@ by_value =
 
 -- ---- for C: kl_owned, kl_jumps, kl_stores, kl_widest
 
-abbrev pub by_kl_owned : Promise kl.owned (Processor × List ℕ × ℕ) ℕ
+abbrev pub by_kl_owned : Promise kl-owned.Post (Processor × List ℕ × ℕ) ℕ
 by_kl_owned = record { given = λ κs a. (a.0.now, a.1.0.now, a.1.1.0); left = λ κs r s. r; meant = owned_in; says = λ κs a r s h. h }
 
-abbrev pub by_kl_jumps : Promise kl.jumps (Processor × List ℕ × ℕ) ℕ
+abbrev pub by_kl_jumps : Promise kl-jumps.Post (Processor × List ℕ × ℕ) ℕ
 by_kl_jumps = record { given = λ κs a. (a.0.now, a.1.0.now, a.1.1.0); left = λ κs r s. r; meant = jumps_in; says = λ κs a r s h. h }
 
-abbrev pub by_kl_stores : Promise kl.stores (Processor × List ℕ × ℕ) ℕ
+abbrev pub by_kl_stores : Promise kl-stores.Post (Processor × List ℕ × ℕ) ℕ
 by_kl_stores = record { given = λ κs a. (a.0.now, a.1.0.now, a.1.1.0); left = λ κs r s. r; meant = stores_in; says = λ κs a r s h. h }
 
-abbrev pub by_kl_widest : Promise kl.widest (Processor × List ℕ × List ℕ) ℕ
+abbrev pub by_kl_widest : Promise kl-widest.Post (Processor × List ℕ × List ℕ) ℕ
 by_kl_widest = record { given = λ κs a. (a.0.now, a.1.0.now, a.1.1.0.now); left = λ κs r s. r; meant = widest_in; says = λ κs a r s h. h }
 
 abbrev pub for_c : Counts
 for_c =
     record {
-      Owned = Allows kl.owned by_kl_owned;
-      Jumps = Allows kl.jumps by_kl_jumps;
-      Stores = Allows kl.stores by_kl_stores;
-      Widest = Allows kl.widest by_kl_widest;
-      owned = allowed kl.owned by_kl_owned;
-      jumps = allowed kl.jumps by_kl_jumps;
-      stores = allowed kl.stores by_kl_stores;
-      widest = allowed kl.widest by_kl_widest;
+      Owned = Allows kl-owned.Post by_kl_owned;
+      Jumps = Allows kl-jumps.Post by_kl_jumps;
+      Stores = Allows kl-stores.Post by_kl_stores;
+      Widest = Allows kl-widest.Post by_kl_widest;
+      owned = allowed kl-owned.Post by_kl_owned;
+      jumps = allowed kl-jumps.Post by_kl_jumps;
+      stores = allowed kl-stores.Post by_kl_stores;
+      widest = allowed kl-widest.Post by_kl_widest;
     }
 
 -- ---- what they mean, of any state whose sizes pass 14

@@ -9,6 +9,7 @@ use Rattle.intel_hex.proofs.Laws.Lengths as lengths
 use Rattle.intel_hex.proofs.Theorems.Numbers as numbers
 use Rattle.intel_hex.proofs.Theorems.Exported as exported
 use Rattle.intel_hex.proofs.Theorems.RoundTrip as round_trip
+use Rattle.exporter.specs.Views.{exported_of}
 use Rattle.exporter.proofs.export.Reads as exporter
 use Rattle.host.proofs.kl_export.Reads as kl-export
 use Rattle.claims.specs.Allowed.{Promise, Allows, allowed}
@@ -25,7 +26,7 @@ abbrev pub by_export : Promise exporter.Post (List ℕ × List ℕ) Written
 by_export =
     record {
       given = λ κs a. (a.0.now, a.1.0.now);
-      left = λ κs r s. record { answer = r.answer; length = r.length; out = s.1.0.now };
+      left = λ κs r s. exported_of r s.1.0.now;
       meant = λ i. export i.0 i.1;
       says = λ κs a r s h. h;
     }

@@ -11,6 +11,7 @@ use Rattle.intel_hex.proofs.Theorems.Numbers as numbers
 use Rattle.intel_hex.proofs.Theorems.Accepted.{Says}
 use Rattle.intel_hex.proofs.Theorems.Accepted as accepted
 use Rattle.intel_hex.proofs.Theorems.Answers.{is_answer, import_answers}
+use Rattle.importer.specs.Views.{imported_of}
 use Rattle.importer.proofs.import.Reads as importer
 use Rattle.host.proofs.kl_import.Reads as kl-import
 use Rattle.claims.specs.Allowed.{Promise, Allows, allowed}
@@ -36,7 +37,7 @@ abbrev pub by_import : Promise importer.Post Given Imported
 by_import =
     record {
       given = λ κs a. record { text = a.0.now; regs = a.1.0.now; entry = a.1.1.0; out = a.1.1.1.0.now };
-      left = λ κs r s. record { answer = r.answer; line = r.line; length = r.length; out = s.1.1.1.0.now };
+      left = λ κs r s. imported_of r s.1.1.1.0.now;
       meant = meant_by;
       says = λ κs a r s h. h;
     }

@@ -6,6 +6,7 @@ use Rattle.printed.specs.Outcome.{outcome, status, Printed, print}
 use Rattle.printed.proofs.Theorems.Tells as tells
 use Rattle.printed.proofs.Theorems.Printing as printing
 use Rattle.printed.proofs.Theorems.Bound as bound
+use Rattle.printer.specs.Views.{printed_of}
 use Rattle.printer.proofs.print.Reads as printer
 use Rattle.claims.specs.Allowed.{Promise, Allows, allowed}
 
@@ -13,7 +14,7 @@ abbrev pub by_print : Promise printer.Post (Bool × List ℕ × List ℕ) Printe
 by_print =
     record {
       given = λ κs a. (a.0, a.1.0.now, a.1.1.0.now);
-      left = λ κs r s. record { answer = r.answer; length = r.length; status = r.status; out = s.1.1.0.now };
+      left = λ κs r s. printed_of r s.1.1.0.now;
       meant = λ i. print i.0 i.1 i.2;
       says = λ κs a r s h. h;
     }

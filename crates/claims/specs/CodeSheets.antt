@@ -11,6 +11,7 @@ use Rattle.sheets.proofs.Theorems.Exact.{most}
 use Rattle.sheets.proofs.Theorems.Images.{entries, night_exact, night_sum}
 use Rattle.sheets.proofs.Theorems.Bound.{line_most, night_most}
 use Rattle.sheets.proofs.Theorems.Telling as telling
+use Rattle.printer.specs.Endings.{status_of}
 use Rattle.sheet.specs.Views as seen
 use Rattle.sheet.proofs.line.Reads as Line-of
 use Rattle.sheet.proofs.none.Reads as none_of
@@ -50,7 +51,7 @@ by_total =
     }
 
 abbrev pub by_ended : Promise Ended-of.Post Totals ℕ
-by_ended = record { given = λ κs a. seen.totals_of a.0; left = λ κs r s. r; meant = status; says = λ κs a r s h. h }
+by_ended = record { given = λ κs a. seen.totals_of a.0; left = λ κs r s. status_of r; meant = status; says = λ κs a r s h. h }
 
 -- ---- a text in the lent buffer
 

@@ -10,7 +10,9 @@ use Rattle.sources.proofs.Theorems.Assembling.{Fits, TooShort}
 use Rattle.sources.proofs.Theorems.Accepted.{Room}
 use Rattle.sources.proofs.Listings.ListingBack.{Small}
 use Rattle.sources.proofs.Listings.ListingNumbers as listing
+use Rattle.assembler.specs.Views.{assembled_of}
 use Rattle.assembler.proofs.assemble.Reads as assembler
+use Rattle.disassembler.specs.Views.{listed_of}
 use Rattle.disassembler.proofs.disassemble.Reads as disassembler
 use Rattle.host.proofs.kl_assemble.Reads as kl-assemble
 use Rattle.host.proofs.kl_disassemble.Reads as kl-disassemble
@@ -31,7 +33,7 @@ abbrev pub by_assemble : Promise assembler.Post (List ℕ × List ℕ) Assembled
 by_assemble =
     record {
       given = λ κs a. (a.0.now, a.1.0.now);
-      left = λ κs r s. record { answer = r.answer; line = r.line; length = r.length; out = s.1.0.now };
+      left = λ κs r s. assembled_of r s.1.0.now;
       meant = λ i. assemble i.0 i.1;
       says = λ κs a r s h. h;
     }
@@ -40,7 +42,7 @@ abbrev pub by_disassemble : Promise disassembler.Post (List ℕ × List ℕ) Wri
 by_disassemble =
     record {
       given = λ κs a. (a.0.now, a.1.0.now);
-      left = λ κs r s. record { answer = r.answer; length = r.length; out = s.1.0.now };
+      left = λ κs r s. listed_of r s.1.0.now;
       meant = λ i. disassemble i.0 i.1;
       says = λ κs a r s h. h;
     }

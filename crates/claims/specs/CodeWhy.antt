@@ -5,8 +5,7 @@ use Rattle.rules.specs.State.{State}
 use Rattle.rules.specs.Step.{step}
 use Rattle.reasons.specs.Why as reasons
 use Rattle.reasons.specs.Theorems.Witness.{Shows, shows, told_exactly}
-use Rattle.machine.specs.Views.{state_of}
-use Rattle.why.specs.Views.{why_of}
+use Rattle.why.specs.Views.{state_by, why_of}
 use Rattle.why.proofs.why.Reads as call
 
 -- whatever is told, if it is what the definition says
@@ -19,9 +18,9 @@ module _ (s : State) (w : reasons.Why) (e : w ≡ reasons.why s) where
 
 -- the call by value: the cause is shown, and the number is told exactly where the step answers it
 pub why_shows : (κs : _) (a : _) (r : _) (s : _) → call.Post κs a r s
-    → Shows (state_of a.0 a.1.0.now a.1.1.0.now a.1.1.1.0.now a.1.1.1.1.0.now a.1.1.1.1.1.0.now) (why_of r)
+    → Shows (state_by a.0 a.1.0.now) (why_of r)
 why_shows κs a r s h = told_shows _ _ h
 
 pub why_exactly : (κs : _) (a : _) (r : _) (s : _) → call.Post κs a r s → (k : ℕ)
-    → ((why_of r).answer ≡ k) ↔ ((step (state_of a.0 a.1.0.now a.1.1.0.now a.1.1.1.0.now a.1.1.1.1.0.now a.1.1.1.1.1.0.now)).answer ≡ k)
+    → ((why_of r).answer ≡ k) ↔ ((step (state_by a.0 a.1.0.now)).answer ≡ k)
 why_exactly κs a r s h k = told_there _ _ h k

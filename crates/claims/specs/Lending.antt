@@ -8,11 +8,14 @@ use Rattle.rules.specs.Images as images
 use Rattle.rules.specs.Rows.{Row, LentStepped, lent_step, LentRan, lent_run, lent_load}
 use Rattle.rules.proofs.Theorems.Rows.{told, lent_load_lem, same_run}
 use Rattle.rows.specs.Views.{table}
+use Rattle.answers.specs.Numbers.{answer_of}
 use Rattle.machine.proofs.Processor.step_rows.Reads as step-rows
 use Rattle.machine.proofs.Processor.run_rows.Reads as run-rows
 use Rattle.loader.proofs.load_rows.Reads as load_rows
+use Rattle.host.proofs.kl_load.Reads as kl-load
+use Rattle.host.proofs.kl_step.Reads as kl-step
+use Rattle.host.proofs.kl_run.Reads as kl-run
 use Rattle.claims.specs.Allowed.{Promise, Allows, allowed}
-use Rattle.claims.specs.HostContracts as kl
 use Rattle.claims.specs.Memories.{over, memories}
 
 -- what the contracts of load, step and run with a table allow, and that each such outcome is what the rules say: 18 where the table has not
@@ -43,7 +46,7 @@ abbrev by_load : Promise load_rows.Post (Bool × List ℕ × State × List Row) 
 by_load =
     record {
       given = λ κs a. (a.0, a.1.0.now, memories a.1.1, table a.1.1.1.1.1.1.1.0.now);
-      left = λ κs r s. record { answer = r.answer; state = over r.cpu s.1.1; rows = table s.1.1.1.1.1.1.1.0.now };
+      left = λ κs r s. record { answer = answer_of r.answer; state = over r.cpu s.1.1; rows = table s.1.1.1.1.1.1.1.0.now };
       meant = λ i. lent_load i.0 i.1 i.2 i.3;
       says = λ κs a r s h. h;
     }
@@ -79,7 +82,7 @@ by_value =
 
 -- ---- for C: kl_load, kl_step, kl_run
 
-abbrev by_kl_load : Promise kl.load (Bool × List ℕ × State × List Row) LentStepped
+abbrev by_kl_load : Promise kl-load.Post (Bool × List ℕ × State × List Row) LentStepped
 by_kl_load =
     record {
       given = λ κs a. (a.1.0, a.1.1.0.now, memories a.1.1.1, table a.1.1.1.1.1.1.1.1.0.now);
@@ -88,7 +91,7 @@ by_kl_load =
       says = λ κs a r s h. h;
     }
 
-abbrev by_kl_step : Promise kl.step (State × List Row) LentRan
+abbrev by_kl_step : Promise kl-step.Post (State × List Row) LentRan
 by_kl_step =
     record {
       given = λ κs a. (over a.0.now a.1, table a.1.1.1.1.1.1.0.now);
@@ -97,7 +100,7 @@ by_kl_step =
       says = λ κs a r s h. ap one_lent h ∙ run_one_lent _ _;
     }
 
-abbrev by_kl_run : Promise kl.run (ℕ × State × List Row) LentRan
+abbrev by_kl_run : Promise kl-run.Post (ℕ × State × List Row) LentRan
 by_kl_run =
     record {
       given = λ κs a. (a.1.1.1.1.1.1.1.0, over a.0.now a.1, table a.1.1.1.1.1.1.0.now);
@@ -109,12 +112,12 @@ by_kl_run =
 abbrev pub for_c : Lending
 for_c =
     record {
-      Loads = λ m bytes old rows. Allows kl.load by_kl_load (m, bytes, old, rows);
-      Steps = λ s rows. Allows kl.step by_kl_step (s, rows);
-      Runs = λ budget s rows. Allows kl.run by_kl_run (budget, s, rows);
-      loads = λ m bytes old rows. allowed kl.load by_kl_load (m, bytes, old, rows);
-      steps = λ s rows. allowed kl.step by_kl_step (s, rows);
-      runs = λ budget s rows. allowed kl.run by_kl_run (budget, s, rows);
+      Loads = λ m bytes old rows. Allows kl-load.Post by_kl_load (m, bytes, old, rows);
+      Steps = λ s rows. Allows kl-step.Post by_kl_step (s, rows);
+      Runs = λ budget s rows. Allows kl-run.Post by_kl_run (budget, s, rows);
+      loads = λ m bytes old rows. allowed kl-load.Post by_kl_load (m, bytes, old, rows);
+      steps = λ s rows. allowed kl-step.Post by_kl_step (s, rows);
+      runs = λ budget s rows. allowed kl-run.Post by_kl_run (budget, s, rows);
     }
 
 -- ---- an outcome of a call that was lent 64 rows, whatever they held, seen without them: the machine has no rows

@@ -5,7 +5,6 @@ pub mod Strict
 pub mod Sources
 -- ---- of the code, over its contracts
 pub mod Allowed
-pub mod HostContracts
 pub mod Memories
 pub mod Lending
 pub mod Code

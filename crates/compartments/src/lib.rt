@@ -4,7 +4,8 @@
 ghost use Rattle.std.specs.Prelude.{◌≡◌};
 ghost use Rattle.rules.specs.Compartments.{member, insert, empty, service_numbers, size, lowest};
 
-#[derive(Clone, Copy)]
+// kept: contracts here, in rights and in tags, and the theorems none_once to lowest_once, speak of the number in it, as a memory holds it
+#[derive(Clone, Copy, Debug, PartialEq, Eq)]
 pub struct Set(pub u64);
 
 impl Set {
@@ -38,37 +39,31 @@ impl Set {
     pub fn contains(self, number: u32) -> bool
         ensures { result ≡ member self.0 number }
     {
-        let bits = self.0;
-        if number >= 64 {
-            return false;
-        }
-        (bits >> number) % 2 == 1
+        number < 64 && (self.0 >> number) % 2 == 1
     }
 
     // The set with a number more; one from 64 on changes nothing.
     pub fn insert(self, number: u32) -> Set
         ensures { result.0 ≡ insert self.0 number }
     {
-        let bits = self.0;
-        if number >= 64 {
-            return self;
+        if number < 64 {
+            Set(self.0 | 1 << number)
+        } else {
+            self
         }
-        Set(bits | 1u64 << number)
     }
 
     // How many numbers are in the set.
     pub fn count(self) -> u32
         ensures { result ≡ size self.0 }
     {
-        let bits = self.0;
-        u64::count_ones(bits)
+        self.0.count_ones()
     }
 
     // The lowest number in the set, or 64 where it is empty.
     pub fn lowest(self) -> u32
         ensures { result ≡ lowest self.0 }
     {
-        let bits = self.0;
-        u64::trailing_zeros(bits)
+        self.0.trailing_zeros()
     }
 }

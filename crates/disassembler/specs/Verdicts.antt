@@ -1,6 +1,9 @@
 -- The disassembler's returns, in the form in which the code comes to them.
 use Rattle.std.specs.Prelude.{◌≡◌, Bool, true, false, List, ℕ, ◌≤◌, ◌<◌, leb, length}
 use Rattle.std.proofs.Common.{sym, ◌∙◌, inl, inr, arith, leb-true, leb-false, ne_eqb}
+use Rattle.answers.specs.declared.Refusal.{Refusal}
+use Rattle.answers.specs.Numbers.{number}
+use Rattle.answers.specs.Results.{number-not-0}
 use Rattle.common.specs.Answers as answer
 use Rattle.images.specs.Stores.{sets_over}
 use Rattle.sources.specs.Listing.{listing, list_verdict, disassemble}
@@ -25,21 +28,20 @@ module _ (words out : List ℕ) where
 
 -- ---- the listing
 
--- the code's verdict is as the definition says
-module _ (words out : List ℕ) (v : ℕ) (e : v ≡ list_verdict words out) where
+module _ (words out : List ℕ) where
   -- a refusal leaves the buffer
-  pub refuses : (v ≡ 0 → ⊥) → record { answer = v; length = 0; out = out } ≡ disassemble words out
+  pub refuses : (r : Refusal) → number r ≡ list_verdict words out → record { answer = number r; length = 0; out = out } ≡ disassemble words out
   unfolding disassemble
-  refuses n = simp (ne_eqb (list_verdict words out) 0 (λ z. n (e ∙ z)), e)
+  refuses r e = simp (ne_eqb (list_verdict words out) 0 (λ z. number-not-0 r (e ∙ z)), e)
 
-  module _ (z : v ≡ 0) where
+  module _ (e : answer.done ≡ list_verdict words out) where
     accepted : Fits words out
-    accepted = accepts words out (sym e ∙ z)
+    accepted = accepts words out (sym e)
 
     pub fits : length (listing words) ≤ length out
     fits = accepted.room
 
-    pub writes : (new : List ℕ) (n : ℕ) → Stored out 0 (listing words) new n → record { answer = v; length = n; out = new } ≡ disassemble words out
+    pub writes : (new : List ℕ) (n : ℕ) → Stored out 0 (listing words) new n → record { answer = answer.done; length = n; out = new } ≡ disassemble words out
     writes new n s =
         let l : n ≡ length (listing words) = omega arith in
-        simp (z, l, s.bytes ∙ sets_over (listing words) out fits) (sym (listed words out accepted))
+        simp (l, s.bytes ∙ sets_over (listing words) out fits) (sym (listed words out accepted))

@@ -7,43 +7,34 @@ mod names;
 mod operands;
 
 ghost use Rattle.std.specs.Prelude.{◌≡◌};
+ghost use Rattle.answers.specs.Numbers.{answer_of};
 ghost use Rattle.sources.specs.Listing.{list_verdict, disassemble};
 ghost use Rattle.disassembler.specs.Views.{listed_of};
 
 use crate::lines::{has_room, store_listing};
+use answers::Refusal;
 
-// Answer 0 and the length written, or a refusal and 0.
-#[derive(Clone, Copy)]
-pub struct Listed {
-    pub answer: u32,
-    pub length: usize,
-}
+// No listing is of more words.
+const MOST: usize = 2048;
 
-// What is wrong first, or 0.
-fn verdict(words: &[u32], out: &[u8]) -> u32
-    ensures { result ≡ list_verdict words.now out.now }
+// Whether words can be listed.
+fn check(words: &[u32], out: &[u8]) -> Result<(), Refusal>
+    ensures { answer_of result ≡ list_verdict words.now out.now }
 {
     let n = words.len();
-    if n < 1 {
-        return answers::BAD_SIZE;
-    }
-    if 2048 < n {
-        return answers::BAD_SIZE;
+    if n < 1 || MOST < n {
+        return Err(Refusal::BadSize);
     }
     if !has_room(words, out.len()) {
-        return answers::SHORT_BUFFER;
+        return Err(Refusal::ShortBuffer);
     }
-    answers::DONE
+    Ok(())
 }
 
-// Writes the listing of exactly these words, one line a word.
-pub fn disassemble(words: &[u32], out: &mut [u8]) -> Listed
+// Writes the listing of exactly these words, one line a word; answers its length.
+pub fn disassemble(words: &[u32], out: &mut [u8]) -> Result<usize, Refusal>
     ensures { listed_of result out.new ≡ disassemble words.now out.old }
 {
-    let answer = verdict(words, out);
-    if answer != answers::DONE {
-        return Listed { answer, length: 0 };
-    }
-    let length = store_listing(out, words);
-    Listed { answer, length }
+    check(words, out)?;
+    Ok(store_listing(out, words))
 }

@@ -12,12 +12,13 @@ fn store_word(out: &mut [u8], at: usize, w: u32) -> usize
     requires { at + length (word_text w) ≤ length out.old }
     ensures { Stored out.old at (word_text w) out.new result }
 {
-    let i = instructions::decode(w);
-    if i.answer != answers::DONE {
-        return store_number(out, at, w);
+    match instructions::decode(w) {
+        Ok(instruction) => {
+            let p = store_name(out, at, instruction.op);
+            store_operands(out, p, instruction)
+        }
+        Err(_) => store_number(out, at, w),
     }
-    let p = store_name(out, at, i.op);
-    store_operands(out, p, i)
 }
 
 // How long the text of a word is: no line is longer than fifteen bytes.
@@ -37,10 +38,8 @@ pub(crate) fn has_room(words: &[u32], room: usize) -> bool
         return true;
     }
     let mut n: usize = 0;
-    let mut i = 0;
-    while i < words.len() {
-        n = n + word_length(words[i]) + 1;
-        i += 1;
+    for word in words {
+        n += word_length(*word) + 1;
     }
     n <= room
 }
@@ -51,12 +50,10 @@ pub(crate) fn store_listing(out: &mut [u8], words: &[u32]) -> usize
     ensures { Stored out.old 0 (listing words.now) out.new result }
 {
     let mut at: usize = 0;
-    let mut i = 0;
-    while i < words.len() {
-        let end = store_word(out, at, words[i]);
+    for word in words {
+        let end = store_word(out, at, *word);
         out[end] = b'\n';
         at = end + 1;
-        i += 1;
     }
     at
 }

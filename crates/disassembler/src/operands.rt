@@ -3,11 +3,11 @@ ghost use Rattle.std.specs.Prelude.{◌++◌, ◌+◌, ◌<◌, ◌≤◌, lengt
 ghost use Rattle.numerals.specs.Bytes.{bytes};
 ghost use Rattle.numerals.specs.Numerals.{decimal};
 ghost use Rattle.sources.specs.Listing.{blank, register_text, offset_text, operands};
-ghost use Rattle.instructions.specs.Views.{decoded};
+ghost use Rattle.instructions.specs.Views.{standing};
 ghost use Rattle.disassembler.specs.Stores.{Stored};
 
 use crate::digits::store_decimal;
-use instructions::Decoded;
+use instructions::Instruction;
 
 // Stores a blank and a register.
 fn store_register(out: &mut [u8], at: usize, r: u32) -> usize
@@ -71,9 +71,9 @@ fn store_three(out: &mut [u8], at: usize, a: u32, b: u32, d: u32) -> usize
 }
 
 // Stores what stands behind an instruction's mnemonic.
-pub(crate) fn store_operands(out: &mut [u8], at: usize, i: Decoded) -> usize
-    requires { (i.low < 65536) × (at + length (operands (decoded i)) ≤ length out.old) }
-    ensures { Stored out.old at (operands (decoded i)) out.new result }
+pub(crate) fn store_operands(out: &mut [u8], at: usize, i: Instruction) -> usize
+    requires { (i.low < 65536) × (at + length (operands (standing i)) ≤ length out.old) }
+    ensures { Stored out.old at (operands (standing i)) out.new result }
 {
     let op = i.op;
     let a = i.a;

@@ -1,10 +1,9 @@
 -- Records as the code comes to them: their parts put one behind another, and one record behind another.
-use Rattle.std.specs.Prelude.{◌≡◌, refl, Bool, true, false, List, [], ◌∷◌, ◌++◌, ℕ, zero, suc, ◌+◌, ◌-◌, ◌*◌, ◌/◌, ◌%◌, ◌≤◌, min, leb, length, take, drop}
+use Rattle.std.specs.Prelude.{◌≡◌, refl, Bool, true, false, List, [], ◌∷◌, ◌++◌, ℕ, zero, suc, ◌+◌, ◌-◌, ◌*◌, ◌/◌, ◌%◌, ◌<◌, min, leb, get_or, length, take, drop}
 use Rattle.std.proofs.Common.{sym, ap, ◌∙◌, append_assoc, add-zero, zero-add, add-one, arith, leb-true, leb-false, length-drop, take_all}
 use Rattle.rules.specs.Images.{all_bytes}
 use Rattle.images.specs.Sections.{length_all_bytes}
 use Rattle.numerals.specs.Bytes.{feed}
-use Rattle.numerals.specs.Numerals.{digits}
 use Rattle.numerals.specs.Writing.{put}
 use Rattle.text.specs.Puts.{put_of, put_nothing, put_behind}
 use Rattle.intel_hex.specs.Records.{colon, data_type, sum}
@@ -13,54 +12,44 @@ use Rattle.exporter.specs.Words.{pairs_append}
 
 -- ---- one record
 
-abbrev head_of : ℕ → ℕ → List ℕ
-head_of n place = colon ∷ pairs (n ∷ place / 256 ∷ place % 256 ∷ data_type ∷ [])
+-- an address in two bytes
+pub place_bytes : (place : ℕ) (bs : List ℕ) → place < 65536 → bs ≡ place / 256 % 256 ∷ place % 256 ∷ [] → (get_or bs 0 0 ≡ place / 256) × (get_or bs 1 0 ≡ place % 256)
+place_bytes place bs h e = rw e (omega arith, refl)
 
-pub head_put : (n place at : ℕ) (out : List ℕ) (p q r s t : ℕ) (one two three four five : List ℕ)
-    → put_of p one ≡ put (colon ∷ []) at out → put_of q two ≡ put (digits 16 2 n) p one
-    → put_of r three ≡ put (digits 16 2 (place / 256)) q two → put_of s four ≡ put (digits 16 2 (place % 256)) r three
-    → put_of t five ≡ put (digits 16 2 data_type) s four → put_of t five ≡ put (head_of n place) at out
-unfolding pairs
-head_put n place at out p q r s t one two three four five a b c d e =
-    let two_put = put_behind (colon ∷ []) (digits 16 2 n) out at p one q two a b in
-    let three-put = put_behind (colon ∷ pairs (n ∷ [])) (digits 16 2 (place / 256)) out at q two r three two_put c in
-    let four-put = put_behind (colon ∷ pairs (n ∷ place / 256 ∷ [])) (digits 16 2 (place % 256)) out at r three s four three-put d in
-    put_behind (colon ∷ pairs (n ∷ place / 256 ∷ place % 256 ∷ [])) (digits 16 2 data_type) out at s four t five four-put e
+-- the count, the bytes of the address and the checksum are the code's
+module _ (place : ℕ) (ws : List ℕ) (n high low c : ℕ) (count : n ≡ 4 * length ws) (above : high ≡ place / 256) (below : low ≡ place % 256)
+    (check : c ≡ (256 - (n + high + low + sum (all_bytes ws)) % 256) % 256) where
+  abbrev head : List ℕ
+  head = n ∷ high ∷ low ∷ data_type ∷ []
 
--- the sum as the code adds it up
-fields_sum : (place : ℕ) (bytes : List ℕ) → sum (fields_of place data_type bytes) ≡ length bytes + place / 256 + place % 256 + sum bytes
-unfolding sum
-fields_sum place bytes = omega arith
+  fields_are : head ++ all_bytes ws ≡ fields_of place data_type (all_bytes ws)
+  fields_are =
+      let l = count ∙ sym (length_all_bytes ws) in λ i. l i ∷ above i ∷ below i ∷ data_type ∷ all_bytes ws
 
-record_text : (place : ℕ) (bytes : List ℕ) (n c : ℕ) → n ≡ length bytes → c ≡ checksum (fields_of place data_type bytes)
-    → head_of n place ++ pairs bytes ++ digits 16 2 c ++ feed ∷ [] ≡ data_record place bytes ++ feed ∷ []
-unfolding data_record pairs
-record_text place bytes n c e f =
-    ap (λ (l : List ℕ). head_of n place ++ (l ++ feed ∷ [])) (sym (pairs_append bytes (c ∷ [])))
-    ∙ ap (λ (m : ℕ). head_of m place ++ (pairs (bytes ++ c ∷ []) ++ feed ∷ [])) e
-    ∙ ap (λ (x : ℕ). head_of (length bytes) place ++ (pairs (bytes ++ x ∷ []) ++ feed ∷ [])) f
+  check_is : c ≡ checksum (fields_of place data_type (all_bytes ws))
+  unfolding sum
+  check_is =
+      let l = length_all_bytes ws in
+      let e : n + high + low + sum (all_bytes ws) ≡ sum (fields_of place data_type (all_bytes ws)) = omega arith in
+      check ∙ ap (λ (x : ℕ). (256 - x % 256) % 256) e
 
--- the count and the sum are the code's
-module _ (place : ℕ) (ws : List ℕ) (n s b : ℕ) (count : n ≡ 4 * length ws) (bytes : b ≡ sum (all_bytes ws)) (total : s ≡ n + place / 256 + place % 256 + b) where
-  n_is : n ≡ length (all_bytes ws)
-  n_is = count ∙ sym (length_all_bytes ws)
+  record_text : colon ∷ (pairs head ++ pairs (all_bytes ws) ++ pairs (c ∷ []) ++ feed ∷ []) ≡ data_record place (all_bytes ws) ++ feed ∷ []
+  unfolding data_record
+  record_text =
+      ap (λ (l : List ℕ). colon ∷ (l ++ pairs (c ∷ []) ++ feed ∷ [])) (sym (pairs_append head (all_bytes ws)))
+      ∙ ap (λ (l : List ℕ). colon ∷ (l ++ feed ∷ [])) (sym (pairs_append (head ++ all_bytes ws) (c ∷ [])))
+      ∙ (λ i. colon ∷ (pairs (fields_are i ++ check_is i ∷ []) ++ feed ∷ []))
 
-  sum_is : (256 - s % 256) % 256 ≡ checksum (fields_of place data_type (all_bytes ws))
-  sum_is =
-      let f = fields_sum place (all_bytes ws) in
-      let l = n_is in
-      let e : s ≡ sum (fields_of place data_type (all_bytes ws)) = omega arith in
-      ap (λ (x : ℕ). (256 - x % 256) % 256) e
-
-  pub record_put : (at : ℕ) (out : List ℕ) (p q r t : ℕ) (one two three four : List ℕ)
-      → put_of p one ≡ put (head_of n place) at out → put_of q two ≡ put (pairs (all_bytes ws)) p one
-      → put_of r three ≡ put (digits 16 2 ((256 - s % 256) % 256)) q two → put_of t four ≡ put (feed ∷ []) r three
-      → put_of t four ≡ put (data_record place (all_bytes ws) ++ feed ∷ []) at out
-  record_put at out p q r t one two three four a c d e =
-      let two_put = put_behind (head_of n place) (pairs (all_bytes ws)) out at p one q two a c in
-      let three-put = put_behind (head_of n place ++ pairs (all_bytes ws)) (digits 16 2 ((256 - s % 256) % 256)) out at q two r three two_put d in
-      put_behind (head_of n place ++ pairs (all_bytes ws) ++ digits 16 2 ((256 - s % 256) % 256)) (feed ∷ []) out at r three t four three-put e
-      ∙ ap (λ (x : List ℕ). put x at out) (record_text place (all_bytes ws) n ((256 - s % 256) % 256) n_is sum_is)
+  pub record_put : (at : ℕ) (out : List ℕ) (p q r t z : ℕ) (one two three four five : List ℕ)
+      → put_of p one ≡ put (colon ∷ []) at out → put_of q two ≡ put (pairs head) p one
+      → put_of r three ≡ put (pairs (all_bytes ws)) q two → put_of t four ≡ put (pairs (c ∷ [])) r three
+      → put_of z five ≡ put (feed ∷ []) t four → put_of z five ≡ put (data_record place (all_bytes ws) ++ feed ∷ []) at out
+  record_put at out p q r t z one two three four five a b d e f =
+      let two_put = put_behind (colon ∷ []) (pairs head) out at p one q two a b in
+      let three-put = put_behind (colon ∷ pairs head) (pairs (all_bytes ws)) out at q two r three two_put d in
+      let four-put = put_behind (colon ∷ (pairs head ++ pairs (all_bytes ws))) (pairs (c ∷ [])) out at r three t four three-put e in
+      put_behind (colon ∷ (pairs head ++ pairs (all_bytes ws) ++ pairs (c ∷ []))) (feed ∷ []) out at t four z five four-put f
+      ∙ ap (λ (x : List ℕ). put x at out) record_text
 
 -- ---- the words of record i
 
@@ -123,9 +112,6 @@ records_put bytes i out p n mid new a b =
 pub records_none : (bytes out : List ℕ) → put_of 0 out ≡ put (records bytes 0 0) 0 out
 unfolding records
 records_none bytes out = put_nothing out 0 (omega arith)
-
-pub records_all : (ws : List ℕ) (i : ℕ) → i ≤ records_in ws → length ws ≤ 4 * i → i ≡ records_in ws
-records_all ws i h k = omega arith
 
 pub text_put : (ws out : List ℕ) (p n : ℕ) (mid new : List ℕ) → put_of p mid ≡ put (records (all_bytes ws) 0 (records_in ws)) 0 out
     → put_of n new ≡ put (end_record ++ feed ∷ []) p mid → put_of n new ≡ put (text_of ws) 0 out

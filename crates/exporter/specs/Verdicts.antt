@@ -2,6 +2,9 @@
 use Rattle.std.specs.Prelude.{◌≡◌, List, ℕ, ◌+◌, ◌*◌, ◌/◌, ◌≤◌, ◌<◌, length}
 use Rattle.std.proofs.Common.{sym, ◌∙◌, arith}
 use borrow.Author.Tests.{le-leb, lt-leb, ne_eqb}
+use Rattle.answers.specs.declared.Refusal.{Refusal}
+use Rattle.answers.specs.Numbers.{number}
+use Rattle.answers.specs.Results.{number-not-0}
 use Rattle.common.specs.Answers as answer
 use Rattle.common.specs.Tables.{first_of}
 use Rattle.images.specs.Stores.{sets_over}
@@ -38,20 +41,19 @@ module _ (words out : List ℕ) where
 
 -- ---- the text
 
--- the code's verdict is as the definition says
-module _ (words out : List ℕ) (v : ℕ) (e : v ≡ export_verdict words out) where
+module _ (words out : List ℕ) where
   -- a refusal leaves the buffer
-  pub refuses : (v ≡ 0 → ⊥) → record { answer = v; length = 0; out = out } ≡ export words out
+  pub refuses : (r : Refusal) → number r ≡ export_verdict words out → record { answer = number r; length = 0; out = out } ≡ export words out
   unfolding export
-  refuses n = simp (ne_eqb (export_verdict words out) 0 (λ z. n (e ∙ z)), e)
+  refuses r e = simp (ne_eqb (export_verdict words out) 0 (λ z. number-not-0 r (e ∙ z)), e)
 
-  module _ (z : v ≡ 0) where
+  module _ (e : answer.done ≡ export_verdict words out) where
     pub most : length words ≤ 2048
-    most = (fits words out (sym e ∙ z)).most
+    most = (fits words out (sym e)).most
 
-    pub writes : (new : List ℕ) (n : ℕ) → put_of n new ≡ put (text_of words) 0 out → record { answer = v; length = n; out = new } ≡ export words out
+    pub writes : (new : List ℕ) (n : ℕ) → put_of n new ≡ put (text_of words) 0 out → record { answer = answer.done; length = n; out = new } ≡ export words out
     writes new n s =
-        let f = fits words out (sym e ∙ z) in
+        let f = fits words out (sym e) in
         let w = put_whole (text_of words) out 0 (omega arith) n new s in
         let l : n ≡ length (text_of words) = omega arith in
-        simp (z, l, w.1 ∙ sets_over (text_of words) out f.room) (sym (exported words out f))
+        simp (l, w.1 ∙ sets_over (text_of words) out f.room) (sym (exported words out f))

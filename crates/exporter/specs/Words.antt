@@ -1,6 +1,7 @@
 -- Words as the code comes to them, one after the other: the sum of their bytes, and their digits.
-use Rattle.std.specs.Prelude.{◌≡◌, refl, List, [], ◌∷◌, ◌++◌, ℕ, ◌+◌, ◌*◌, ◌/◌, ◌%◌, ◌≤◌, ◌<◌, get_or, length, take}
-use Rattle.std.proofs.Common.{sym, ap, ◌∙◌, arith, length-take, take_all}
+use Rattle.std.specs.Prelude.{◌≡◌, refl, List, [], ◌∷◌, ◌++◌, ℕ, ◌+◌, ◌*◌, ◌≤◌, ◌<◌, get_or, length, take}
+use Rattle.std.proofs.Common.{sym, ap, ◌∙◌, arith, length-take}
+use Rattle.std.proofs.lemmas.List.{take_more}
 use Rattle.rules.specs.Images.{four_bytes, all_bytes}
 use Rattle.images.specs.Sections.{bytes_more}
 use Rattle.numerals.specs.Numerals.{digits}
@@ -10,16 +11,11 @@ use Rattle.intel_hex.specs.Records.{sum}
 use Rattle.intel_hex.specs.Exporting.{pairs}
 use Rattle.intel_hex.proofs.Laws.Written.{sum_append}
 
--- ---- bytes
-
-pub bytes_all : (ws : List ℕ) (i : ℕ) → length ws ≤ i → all_bytes (take i ws) ≡ all_bytes ws
-bytes_all ws i h = ap all_bytes (take_all i ws h)
-
 -- ---- their sum
 
-pub sum_four : (w : ℕ) → sum (four_bytes w) ≡ w % 256 + w / 256 % 256 + w / 65536 % 256 + w / 16777216 % 256
+pub sum_four : (w : ℕ) (bs : List ℕ) → bs ≡ four_bytes w → get_or bs 0 0 + get_or bs 1 0 + get_or bs 2 0 + get_or bs 3 0 ≡ sum (four_bytes w)
 unfolding sum
-sum_four w = omega arith
+sum_four w bs e = rw e (omega arith)
 
 pub sum_most : (ws : List ℕ) → sum (all_bytes ws) ≤ 1020 * length ws
 unfolding sum all_bytes
@@ -45,24 +41,25 @@ unfolding pairs
 pairs_append [] ys = refl
 pairs_append (x ∷ xs) ys = ap (λ (l : List ℕ). digits 16 2 x ++ l) (pairs_append xs ys)
 
--- a word, byte by byte
-pub word_put : (w at : ℕ) (out : List ℕ) (p q r n : ℕ) (one two three four : List ℕ)
-    → put_of p one ≡ put (digits 16 2 (w % 256)) at out → put_of q two ≡ put (digits 16 2 (w / 256 % 256)) p one
-    → put_of r three ≡ put (digits 16 2 (w / 65536 % 256)) q two → put_of n four ≡ put (digits 16 2 (w / 16777216 % 256)) r three
-    → put_of n four ≡ put (pairs (four_bytes w)) at out
-unfolding pairs
-word_put w at out p q r n one two three four a b c d =
-    let two_put = put_behind (digits 16 2 (w % 256)) (digits 16 2 (w / 256 % 256)) out at p one q two a b in
-    let three-put = put_behind (pairs (w % 256 ∷ w / 256 % 256 ∷ [])) (digits 16 2 (w / 65536 % 256)) out at q two r three two_put c in
-    put_behind (pairs (w % 256 ∷ w / 256 % 256 ∷ w / 65536 % 256 ∷ [])) (digits 16 2 (w / 16777216 % 256)) out at r three n four three-put d
+-- the next byte joins, and the next word
+module _ (at : ℕ) (out : List ℕ) (p n : ℕ) (mid new : List ℕ) where
+  pub byte_put : (bs : List ℕ) (i : ℕ) → i < length bs → put_of p mid ≡ put (pairs (take i bs)) at out
+      → put_of n new ≡ put (digits 16 2 (get_or bs i 0)) p mid → put_of n new ≡ put (pairs (take (i + 1) bs)) at out
+  unfolding pairs
+  byte_put bs i h a b =
+      put_behind (pairs (take i bs)) (digits 16 2 (get_or bs i 0)) out at p mid n new a b
+      ∙ ap (λ (t : List ℕ). put t at out) (sym (ap pairs (take_more bs i 0 h) ∙ pairs_append (take i bs) (get_or bs i 0 ∷ [])))
 
--- the next word joins
-pub words_put : (ws : List ℕ) (i : ℕ) → i < length ws → (at : ℕ) (out : List ℕ) (p n : ℕ) (mid new : List ℕ)
-    → put_of p mid ≡ put (pairs (all_bytes (take i ws))) at out → put_of n new ≡ put (pairs (four_bytes (get_or ws i 0))) p mid
-    → put_of n new ≡ put (pairs (all_bytes (take (i + 1) ws))) at out
-words_put ws i h at out p n mid new a b =
-    put_behind (pairs (all_bytes (take i ws))) (pairs (four_bytes (get_or ws i 0))) out at p mid n new a b
-    ∙ ap (λ (t : List ℕ). put t at out) (sym (ap pairs (bytes_more ws i h) ∙ pairs_append (all_bytes (take i ws)) (four_bytes (get_or ws i 0))))
+  pub word_put : (ws : List ℕ) (i : ℕ) → i < length ws → put_of p mid ≡ put (pairs (all_bytes (take i ws))) at out
+      → put_of n new ≡ put (pairs (four_bytes (get_or ws i 0))) p mid → put_of n new ≡ put (pairs (all_bytes (take (i + 1) ws))) at out
+  word_put ws i h a b =
+      put_behind (pairs (all_bytes (take i ws))) (pairs (four_bytes (get_or ws i 0))) out at p mid n new a b
+      ∙ ap (λ (t : List ℕ). put t at out) (sym (ap pairs (bytes_more ws i h) ∙ pairs_append (all_bytes (take i ws)) (four_bytes (get_or ws i 0))))
+
+-- none yet
+pub bytes_none : (bs : List ℕ) (at : ℕ) (out : List ℕ) → at ≤ length out → put_of at out ≡ put (pairs (take 0 bs)) at out
+unfolding pairs
+bytes_none bs at out h = put_nothing out at h
 
 pub words_none : (ws : List ℕ) (at : ℕ) (out : List ℕ) → at ≤ length out → put_of at out ≡ put (pairs (all_bytes (take 0 ws))) at out
 unfolding pairs all_bytes

@@ -9,7 +9,8 @@ ghost use Rattle.intel_hex.specs.Exporting.{pairs};
 fn byte_sum(w: u32) -> u32
     ensures { result ≡ sum (four_bytes w) }
 {
-    w % 256 + w / 256 % 256 + w / 65536 % 256 + w / 16777216 % 256
+    let [first, second, third, fourth] = w.to_le_bytes();
+    u32::from(first) + u32::from(second) + u32::from(third) + u32::from(fourth)
 }
 
 // The sum of the bytes of a record's words.
@@ -17,34 +18,33 @@ pub(crate) fn words_sum(words: &[u32]) -> u32
     requires { length words.now ≤ 4 }
     ensures { result ≡ sum (all_bytes words.now) }
 {
-    let mut s: u32 = 0;
-    let mut i = 0;
-    while i < words.len() {
-        s += byte_sum(words[i]);
-        i += 1;
+    let mut sum = 0;
+    for word in words {
+        sum += byte_sum(*word);
     }
-    s
+    sum
 }
 
-fn put_word(out: &mut [u8], at: usize, w: u32) -> usize
-    ensures { put_of result out.new ≡ put (pairs (four_bytes w)) at out.old }
+// Puts the digits of bytes from a place on; answers the place behind them, or the buffer's end.
+pub(crate) fn put_bytes(out: &mut [u8], at: usize, bytes: &[u8]) -> usize
+    requires { at ≤ length out.old }
+    ensures { put_of result out.new ≡ put (pairs bytes.now) at out.old }
 {
-    let second = text::put_pair(out, at, w % 256);
-    let third = text::put_pair(out, second, w / 256 % 256);
-    let fourth = text::put_pair(out, third, w / 65536 % 256);
-    text::put_pair(out, fourth, w / 16777216 % 256)
+    let mut next = at;
+    for byte in bytes {
+        next = text::put_pair(out, next, u32::from(*byte));
+    }
+    next
 }
 
-// Puts the digits of words from a place on; answers the place behind them, or the buffer's end.
+// The same of words.
 pub(crate) fn put_words(out: &mut [u8], at: usize, words: &[u32]) -> usize
     requires { at ≤ length out.old }
     ensures { put_of result out.new ≡ put (pairs (all_bytes words.now)) at out.old }
 {
-    let mut p = at;
-    let mut i = 0;
-    while i < words.len() {
-        p = put_word(out, p, words[i]);
-        i += 1;
+    let mut next = at;
+    for word in words {
+        next = put_bytes(out, next, &word.to_le_bytes());
     }
-    p
+    next
 }

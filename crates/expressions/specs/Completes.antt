@@ -15,11 +15,11 @@ use Rattle.sources.specs.Labels.{Site}
 use Rattle.grammar.specs.Reading.Kinds.{kind_of, clip}
 use Rattle.tokens.specs.Streams.{stream, token_at}
 use Rattle.tokens.specs.Heads.{head_kind, head_kind_lem, Head, head}
-use Rattle.values.specs.declared.Value.{Value}
 use Rattle.values.specs.Values as value
+use Rattle.values.specs.Values.{Checked}
 use Rattle.values.specs.Meaning.{meant, number_means, unknown_means, plus_means, minus_means, times_means, negated_means}
 use Rattle.expressions.specs.Readers as reader
-use Rattle.expressions.specs.declared.Read.{Read}
+use Rattle.expressions.specs.Readers.{Reading}
 
 -- what is written first of a product is no minus sign
 mutual
@@ -60,7 +60,7 @@ number_clip n = go (ltb n 4294967296) refl
     go true e = rw e refl
     go false e = let l : 4294967296 ≤ n = ltb-false n 4294967296 e in simp (e, lt-leb n 4294967295 (omega arith))
 
-by_sign_means : (s : Sign) (v w : Value)
+by_sign_means : (s : Sign) (v w : Checked)
     → meant (reader.by_sign (kind_of (sign_of s)) v w) ≡ meaning.both (λ a b. meaning.bounded (meaning.by_sign s a b)) (meant v) (meant w)
 by_sign_means adding v w = plus_means v w
 by_sign_means taking v w = minus_means v w
@@ -77,28 +77,28 @@ module _ (text : List ℕ) where
     numbers x = map (λ (s : Site). s.words) (labels x)
 
     -- a reading from a place on came to a value and stopped before these tokens
-    pub record ReadsTo (at : ℕ) (r : Read) (v : meaning.Valued ℤ) (us : List Token) : Type 0 where
+    pub record ReadsTo (at : ℕ) (r : Reading) (v : meaning.Valued ℤ) (us : List Token) : Type 0 where
       pub next : ℕ
-      pub val : Value
+      pub val : Checked
       pub came : r ≡ reader.good next val
       pub means : meant val ≡ v
       pub onward : at < next
       pub rest : stream text next ≡ us
 
     -- .. where it may still go on: with turns enough for the bytes that are left
-    record Turning (operator : ℕ → Bool) (by : ℕ → Value → Value → Value) (item : ℕ → Read) (at : ℕ) (r : Read) (v : meaning.Valued ℤ) (us : List Token) : Type 0 where
+    record Turning (operator : ℕ → Bool) (by : ℕ → Checked → Checked → Checked) (item : ℕ → Reading) (at : ℕ) (r : Reading) (v : meaning.Valued ℤ) (us : List Token) : Type 0 where
       turns : ℕ
       next : ℕ
-      val : Value
+      val : Checked
       enough : length text ≤ turns + next
       came : r ≡ reader.more text operator by item turns (reader.good next val)
       means : meant val ≡ v
       onward : at < next
       rest : stream text next ≡ us
 
-    module _ (operator : ℕ → Bool) (by : ℕ → Value → Value → Value) (item : ℕ → Read) (at : ℕ) (r : Read) where
+    module _ (operator : ℕ → Bool) (by : ℕ → Checked → Checked → Checked) (item : ℕ → Reading) (at : ℕ) (r : Reading) where
       -- the first item
-      starts : (x : Read) (v : meaning.Valued ℤ) (us : List Token) → r ≡ reader.more text operator by item (length text) x → ReadsTo at x v us → Turning operator by item at r v us
+      starts : (x : Reading) (v : meaning.Valued ℤ) (us : List Token) → r ≡ reader.more text operator by item (length text) x → ReadsTo at x v us → Turning operator by item at r v us
       starts x v us e s =
           record {
             turns = length text;
@@ -125,7 +125,7 @@ module _ (text : List ℕ) where
       -- an operator follows: another item
       goes_on : (v w u : meaning.Valued ℤ) (t : Token) (us vs : List Token) → operator (kind_of t) ≡ true → Turning operator by item at r v (t ∷ us)
           → ((p : ℕ) → stream text p ≡ us → ReadsTo p (item p) w vs)
-          → ((a b : Value) → meant a ≡ v → meant b ≡ w → meant (by (kind_of t) a b) ≡ u)
+          → ((a b : Checked) → meant a ≡ v → meant b ≡ w → meant (by (kind_of t) a b) ≡ u)
           → Turning operator by item at r u vs
       unfolding reader.more reader.joined
       goes_on v w u t us vs o s i m = go s.turns refl
@@ -149,8 +149,8 @@ module _ (text : List ℕ) where
               let c : at < s.next = s.onward in
               let k : operator (token_at text s.next).kind ≡ true = ap operator h.kind ∙ o in
               let turn : reader.more text operator by item (suc n) (reader.good s.next s.val)
-              ≡ reader.more text operator by item n (reader.joined (by (token_at text s.next).kind) (reader.good s.next s.val) (item (token_at text s.next).next)) = simp k in
-              let join : reader.joined (by (token_at text s.next).kind) (reader.good s.next s.val) (item (token_at text s.next).next)
+              ≡ reader.more text operator by item n (reader.joined (by (token_at text s.next).kind) (reader.read s.next s.val) (item (token_at text s.next).next)) = simp k in
+              let join : reader.joined (by (token_at text s.next).kind) (reader.read s.next s.val) (item (token_at text s.next).next)
               ≡ reader.good j.next (by (token_at text s.next).kind s.val j.val) = rw j.came refl in
               record {
                 turns = n;
@@ -165,16 +165,16 @@ module _ (text : List ℕ) where
 
     -- ---- the readers of the grammar's parts, with d brackets to open
 
-    abbrev factor_at : ℕ → ℕ → Read
+    abbrev factor_at : ℕ → ℕ → Reading
     factor_at = reader.factor_at text labels dot'
 
-    abbrev product_at : ℕ → ℕ → Read
+    abbrev product_at : ℕ → ℕ → Reading
     product_at = reader.product_at text labels dot'
 
-    abbrev pub expression_at : ℕ → ℕ → Read
+    abbrev pub expression_at : ℕ → ℕ → Reading
     expression_at = reader.expression_at text labels dot'
 
-    atom : (at : ℕ) (t : Token) (us : List Token) (r : Read) (v : Value) (w : meaning.Valued ℤ) → stream text at ≡ t ∷ us → r ≡ reader.good (token_at text at).next v → meant v ≡ w → ReadsTo at r w us
+    atom : (at : ℕ) (t : Token) (us : List Token) (r : Reading) (v : Checked) (w : meaning.Valued ℤ) → stream text at ≡ t ∷ us → r ≡ reader.good (token_at text at).next v → meant v ≡ w → ReadsTo at r w us
     atom at t us r v w e c m =
         let h = head text at t us e in
         record { next = (token_at text at).next; val = v; came = c; means = m; onward = h.onward; rest = h.rest }

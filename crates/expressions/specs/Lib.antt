@@ -1,7 +1,6 @@
 -- ---- readers of expressions, as code reads them
 pub mod Readers
 -- ---- their laws, as the code comes to them
-pub mod Results
 pub mod Reading
 pub mod Forward
 pub mod Turns

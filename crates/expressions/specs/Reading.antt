@@ -1,103 +1,97 @@
 -- The laws of the readers, as the code comes to them.
-use Rattle.std.specs.Prelude.{◌≡◌, List, true, false}
+use Rattle.std.specs.Prelude.{◌≡◌, refl, ◌≢◌, List, true, false, Ok, Err}
 use Rattle.std.proofs.Common.{sym, ◌∙◌}
 use Rattle.std.proofs.Math.Path.{ap}
-use Rattle.std.proofs.Math.Option.{Option, none, some}
+use Rattle.std.proofs.Math.Option.{Option}
 use Prim.Native.Nat.{ℕ, suc, ◌-◌}
 use native.Mathlib.Omega.{arith}
 use borrow.Author.Tests.{eq-eqb, ne_eqb}
-use Rattle.common.specs.Answers as answer
-use Rattle.common.proofs.Laws.Tests.{clash}
+use Rattle.answers.specs.declared.Refusal.TheVariants.{NoLine, TooDeep}
 use Rattle.grammar.specs.Laws.Runs.{name_at}
 use Rattle.sources.specs.Labels.{Site}
-use Rattle.label_table.specs.declared.Found.{Found}
-use Rattle.label_table.specs.Table.{found}
-use Rattle.tokens.specs.declared.Taken.{Taken}
-use Rattle.tokens.specs.Streams.{token_at}
-use Rattle.values.specs.declared.Value.{Value}
-use Rattle.values.specs.Values.{number, unknown}
-use Rattle.expressions.specs.Readers.{good, stop, opposed, named, closed, factor_by, first_by, inside, expression_at}
+use Rattle.tokens.specs.Streams.{Handed, token_at}
+use Rattle.values.specs.Values.{Checked, number, negated}
 use Rattle.expressions.specs.declared.Read.{Read}
+use Rattle.expressions.specs.declared.Stop.{Stop}
+use Rattle.expressions.specs.Readers.{Reading, good, stop, joined, opposed, named, closed, factor_by, first_by, inside, expression_at}
 
--- ---- a label's value
+-- ---- one reading after another
 
-pub named_there : (o : Option Site) (f : Found) → f ≡ found o → f.there ≡ true → (v : Value) → v ≡ number f.words → v ≡ named o
-named_there (some s) f e y v h = h ∙ ap (λ (x : Found). number x.words) e
-named_there none f e y v h = clash y (ap (λ (x : Found). x.there) e)
+module _ (f : Checked → Checked → Checked) (r : Read) (x : Reading) where
+  pub joined_good : (s : Read) → Ok s ≡ x → (v : Checked) → v ≡ f r.value s.value → good s.next v ≡ joined f r x
+  unfolding joined
+  joined_good s e v h = simp (sym e, h)
 
-pub named_none : (o : Option Site) (f : Found) → f ≡ found o → f.there ≡ false → (v : Value) → v ≡ unknown → v ≡ named o
-named_none (some s) f e n v h = clash (ap (λ (x : Found). x.there) e) n
-named_none none f e n v h = h
+  pub joined_stop : (s : Stop) → Err s ≡ x → Err s ≡ joined f r x
+  unfolding joined
+  joined_stop s e = simp (sym e)
 
 module _ (text : List ℕ) where
   -- ---- the closing bracket
 
-  module _ (r : Read) where
-    pub closed_refused : (r.answer ≡ answer.done → ⊥) → r ≡ closed text r
+  module _ (r : Read) (t : Handed) (e : t ≡ token_at text r.next) where
+    pub closed_missing : t.kind ≢ 17 → stop NoLine t.next ≡ closed text (Ok r)
     unfolding closed
-    closed_refused n = simp (ne_eqb r.answer answer.done n)
+    closed_missing n = simp (sym e, ne_eqb t.kind 17 n)
 
-    module _ (z : r.answer ≡ answer.done) (t : Taken) (e : t ≡ token_at text r.next) (s : Read) where
-      pub closed_missing : (t.kind ≡ 17 → ⊥) → s ≡ stop answer.no_line t.next → s ≡ closed text r
-      unfolding closed
-      closed_missing n h = simp (sym e, eq-eqb r.answer answer.done z, ne_eqb t.kind 17 n) h
-
-      pub closed_done : t.kind ≡ 17 → s ≡ good t.next r.value → s ≡ closed text r
-      unfolding closed
-      closed_done k h = simp (sym e, eq-eqb r.answer answer.done z, eq-eqb t.kind 17 k) h
+    pub closed_done : t.kind ≡ 17 → good t.next r.value ≡ closed text (Ok r)
+    unfolding closed
+    closed_done k = simp (sym e, eq-eqb t.kind 17 k)
 
   -- ---- a factor
 
-  module _ (labels : List ℕ → Option Site) (dot : ℕ) (within : ℕ → Read) (at : ℕ) (t : Taken) (e : t ≡ token_at text at) (r : Read) where
-    abbrev Factor : Type 0
-    Factor = r ≡ factor_by text labels dot within at
-
-    pub factor_number : t.kind ≡ 9 → (v : Value) → v ≡ number t.value → r ≡ good t.next v → Factor
-    unfolding factor_by
-    factor_number k v h g = simp (sym e, eq-eqb t.kind 9 k) (g ∙ ap (good t.next) h)
-
-    module _ (no_number : t.kind ≡ 9 → ⊥) where
-      pub factor_name : t.kind ≡ 8 → (v : Value) → v ≡ named (labels (name_at text t.place)) → r ≡ good t.next v → Factor
+  module _ (labels : List ℕ → Option Site) (dot : ℕ) (within : ℕ → Reading) (at : ℕ) (t : Handed) (e : t ≡ token_at text at) where
+    module _ (v : Checked) where
+      pub factor_number : t.kind ≡ 9 → v ≡ number t.value → good t.next v ≡ factor_by text labels dot within at
       unfolding factor_by
-      factor_name k v h g = simp (sym e, ne_eqb t.kind 9 no_number, eq-eqb t.kind 8 k) (g ∙ ap (good t.next) h)
+      factor_number k h = simp (sym e, k, h)
 
-      module _ (no_name : t.kind ≡ 8 → ⊥) where
-        pub factor_dot : t.kind ≡ 15 → (v : Value) → v ≡ number dot → r ≡ good t.next v → Factor
-        unfolding factor_by
-        factor_dot k v h g =
-            simp (sym e, ne_eqb t.kind 9 no_number, ne_eqb t.kind 8 no_name, eq-eqb t.kind 15 k) (g ∙ ap (good t.next) h)
+      pub factor_name : t.kind ≡ 8 → v ≡ named (labels (name_at text t.place)) → good t.next v ≡ factor_by text labels dot within at
+      unfolding factor_by
+      factor_name k h = simp (sym e, k, h)
 
-        module _ (no-dot : t.kind ≡ 15 → ⊥) where
-          pub factor_none : (t.kind ≡ 16 → ⊥) → r ≡ stop answer.no_line t.next → Factor
-          unfolding factor_by
-          factor_none n g =
-              simp (sym e, ne_eqb t.kind 9 no_number, ne_eqb t.kind 8 no_name, ne_eqb t.kind 15 no-dot, ne_eqb t.kind 16 n) g
+      pub factor_dot : t.kind ≡ 15 → v ≡ number dot → good t.next v ≡ factor_by text labels dot within at
+      unfolding factor_by
+      factor_dot k h = simp (sym e, k, h)
 
-          pub factor_inside : t.kind ≡ 16 → r ≡ within t.next → Factor
-          unfolding factor_by
-          factor_inside k g =
-              simp (sym e, ne_eqb t.kind 9 no_number, ne_eqb t.kind 8 no_name, ne_eqb t.kind 15 no-dot, eq-eqb t.kind 16 k) g
+    pub factor_inside : t.kind ≡ 16 → (r : Reading) → r ≡ within t.next → r ≡ factor_by text labels dot within at
+    unfolding factor_by
+    factor_inside k r g = simp (sym e, k) g
+
+    pub factor_none : t.kind ≢ 9 → t.kind ≢ 8 → t.kind ≢ 15 → t.kind ≢ 16 → stop NoLine t.next ≡ factor_by text labels dot within at
+    unfolding factor_by
+    factor_none number name dot left = simp (sym e, ne_eqb t.kind 9 number, ne_eqb t.kind 8 name, ne_eqb t.kind 15 dot, ne_eqb t.kind 16 left)
 
   -- ---- inside a bracket
 
-  module _ (labels : List ℕ → Option Site) (dot d at : ℕ) (s : Read) where
-    pub inside_none : d ≡ 0 → s ≡ stop answer.too_deep at → s ≡ inside text labels dot d at
+  module _ (labels : List ℕ → Option Site) (dot d at : ℕ) where
+    pub inside_none : d ≡ 0 → stop TooDeep at ≡ inside text labels dot d at
     unfolding inside
-    inside_none z e = rw z e
+    inside_none z = rw z refl
 
-    pub inside_some : (d ≡ 0 → ⊥) → (r : Read) → r ≡ expression_at text labels dot (d - 1) at → s ≡ closed text r → s ≡ inside text labels dot d at
-    unfolding inside
-    inside_some n r e f =
-        let k : d ≡ suc (d - 1) = omega arith in
-        f ∙ ap (closed text) e ∙ ap (λ (j : ℕ). inside text labels dot j at) (sym k)
+    module _ (n : d ≢ 0) where
+      pub inside_some : (r : Reading) → r ≡ expression_at text labels dot (d - 1) at → closed text r ≡ inside text labels dot d at
+      unfolding inside
+      inside_some r e =
+          let k : d ≡ suc (d - 1) = omega arith in
+          ap (closed text) e ∙ ap (λ (j : ℕ). inside text labels dot j at) (sym k)
+
+      pub inside_stopped : (s : Stop) → Err s ≡ expression_at text labels dot (d - 1) at → Err s ≡ inside text labels dot d at
+      unfolding closed
+      inside_stopped s e = inside_some (Err s) e
 
   -- ---- the first product
 
-  module _ (product : ℕ → Read) (at : ℕ) (t : Taken) (e : t ≡ token_at text at) (r : Read) where
-    pub first_plain : (t.kind ≡ 13 → ⊥) → r ≡ product at → r ≡ first_by text product at
+  module _ (product : ℕ → Reading) (at : ℕ) (t : Handed) (e : t ≡ token_at text at) where
+    pub first_plain : t.kind ≢ 13 → product at ≡ first_by text product at
     unfolding first_by
-    first_plain n g = simp (sym e, ne_eqb t.kind 13 n) g
+    first_plain n = simp (sym e, ne_eqb t.kind 13 n)
 
-    pub first_minus : t.kind ≡ 13 → r ≡ product t.next → (s : Read) → s ≡ opposed r → s ≡ first_by text product at
-    unfolding first_by
-    first_minus k g s h = simp (sym e, eq-eqb t.kind 13 k) (h ∙ ap opposed g)
+    module _ (k : t.kind ≡ 13) where
+      pub first_minus : (r : Read) → Ok r ≡ product t.next → (v : Checked) → v ≡ negated r.value → good r.next v ≡ first_by text product at
+      unfolding first_by opposed
+      first_minus r g v h = simp (sym e, k, sym g, h)
+
+      pub first_stopped : (s : Stop) → Err s ≡ product t.next → Err s ≡ first_by text product at
+      unfolding first_by opposed
+      first_stopped s g = simp (sym e, k, sym g)

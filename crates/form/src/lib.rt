@@ -15,58 +15,32 @@ pub fn same_lengths(
 ) -> bool
     ensures { result ≡ lengths_by strict words owners jumpers writers readers }
 {
-    if owners != words {
-        return false;
-    }
-    if jumpers != words {
-        return false;
-    }
-    if writers != words {
-        return false;
-    }
-    if !strict {
-        return true;
-    }
-    readers == words
+    owners == words && jumpers == words && writers == words && (!strict || readers == words)
 }
 
 // N is 1 to 2,048 and not above the memories' length.
 fn has_room(n: u32, words: usize) -> bool
     ensures { result ≡ room_by n words }
 {
-    if n < 1 {
-        return false;
-    }
-    if 2048 < n {
-        return false;
-    }
-    n as usize <= words
+    1 <= n && n <= 2048 && n as usize <= words
 }
 
 // next is the first number after loading to 64, and the pc number below it.
 fn is_numbered(strict: bool, next: u32, prev: u32) -> bool
     ensures { result ≡ numbered_by strict next prev }
 {
-    if next < modes::first_number(strict) {
-        return false;
-    }
-    if 64 < next {
-        return false;
-    }
-    prev < next
+    modes::first_number(strict) <= next && next <= 64 && prev < next
 }
 
 // No service's number at a service address.
 fn is_seated(strict: bool, prev: u32, pc: u32) -> bool
     ensures { result ≡ seated_by strict prev pc }
 {
-    if !modes::is_service(strict, pc) {
-        return true;
-    }
-    !modes::is_service_number(strict, prev)
+    !(modes::is_service_number(strict, prev) && modes::is_service(strict, pc))
 }
 
 // Whether they form a state.
+#[tactic(auto, unfolding(crate::specs::Form::formed_by))]
 pub fn is_formed(
     strict: bool,
     n: u32,
@@ -81,14 +55,8 @@ pub fn is_formed(
 ) -> bool
     ensures { result ≡ formed_by strict n pc prev next words owners jumpers writers readers }
 {
-    if !same_lengths(strict, words, owners, jumpers, writers, readers) {
-        return false;
-    }
-    if !has_room(n, words) {
-        return false;
-    }
-    if !is_numbered(strict, next, prev) {
-        return false;
-    }
-    is_seated(strict, prev, pc)
+    same_lengths(strict, words, owners, jumpers, writers, readers)
+        && has_room(n, words)
+        && is_numbered(strict, next, prev)
+        && is_seated(strict, prev, pc)
 }

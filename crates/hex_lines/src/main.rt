@@ -5,130 +5,66 @@
 // A line that begins with # is printed as it is.
 #![tactic(auto)]
 
-use outcomes::MARK;
+use outcomes::{MARK, Shown};
 
-// A number, and the place behind it and one blank.
-#[derive(Clone, Copy)]
-struct Field {
-    value: u32,
-    next: usize,
-}
-
-fn byte(text: &[u8], at: usize) -> u8 {
-    if at < text.len() { text[at] } else { 0 }
-}
-
-fn is_digit(b: u8) -> bool {
-    if b < 48 {
-        return false;
-    }
-    b <= 57
-}
-
-// The number with one digit more, modulo 2 to the power 32.
-fn with_digit(value: u32, b: u8) -> u32 {
-    let digit = (b % 16) as u64;
-    ((10 * (value as u64) + digit) % 4294967296) as u32
-}
-
-fn number(line: &[u8], at: usize) -> Field {
-    let mut value: u32 = 0;
-    let mut p = at;
-    while p < line.len() {
-        let b = line[p];
-        p += 1;
-        if !is_digit(b) {
-            return Field { value, next: p };
-        }
-        value = with_digit(value, b);
-    }
-    Field { value, next: p }
+// A number modulo 2^32, and what stands behind the byte that ends it.
+fn number(line: &[u8]) -> (u32, &[u8]) {
+    let digits = line
+        .iter()
+        .position(|b| !b.is_ascii_digit())
+        .unwrap_or(line.len());
+    let value = line[..digits].iter().fold(0u32, |value, b| {
+        value.wrapping_mul(10).wrapping_add((*b % 16) as u32)
+    });
+    (value, line.get(digits + 1..).unwrap_or(&[]))
 }
 
 // A byte of a text as it is meant.
 fn meant(b: u8) -> u8 {
-    if b == b'/' {
-        return 10;
+    match b {
+        b'/' => b'\n',
+        b'~' => b'\r',
+        _ => b,
     }
-    if b == b'~' {
-        return 13;
-    }
-    b
 }
 
-// The text from a place on, as it is meant; answers its length.
-fn unfold(line: &[u8], at: usize, text: &mut [u8]) -> usize {
-    let mut n = 0;
-    let mut p = at;
-    while p < line.len() {
-        if n == text.len() {
-            return n;
-        }
-        text[n] = meant(line[p]);
-        n += 1;
-        p += 1;
+// Imports the text of a line into the first places of a buffer of marks, with all registers but r0 at 0.
+fn import(rt: HostRuntime, line: &[u8]) {
+    let (room, line) = number(line);
+    let (entry, line) = number(line);
+    let (r0, line) = number(line);
+    let mut text = [0; 1024];
+    for (place, b) in text.iter_mut().zip(line) {
+        *place = meant(*b);
     }
-    n
-}
-
-fn import_into(rt: HostRuntime, text: &[u8], regs: &[u32; 16], entry: u32, out: &mut [u8]) {
-    let i = importer::import(text, regs, entry, out);
-    outcomes::print_outcome(rt, i.answer, i.line, i.length, 0, 0, out);
-}
-
-// Imports a text into the first places of a buffer of marks, with all registers but r0 at 0.
-fn imported(rt: HostRuntime, text: &[u8], room: usize, entry: u32, r0: u32) {
-    let mut out = [MARK; 8272];
-    let n = streams::within(room, &out);
-    let mut regs = [0u32; 16];
+    let mut regs = [0; 16];
     regs[0] = r0;
-    import_into(rt, text, &regs, entry, &mut out[..n]);
-}
-
-fn case(rt: HostRuntime, line: &[u8]) {
-    if byte(line, 0) == b'#' {
-        outcomes::print(rt, line);
-        outcomes::print(rt, b"\n");
-        return;
-    }
-    let room = number(line, 0);
-    let entry = number(line, room.next);
-    let r0 = number(line, entry.next);
-    let mut text = [0u8; 1024];
-    let length = unfold(line, r0.next, &mut text);
-    let n = streams::within(length, &text);
-    imported(rt, &text[..n], room.value as usize, entry.value, r0.value);
-}
-
-// The case at a place, if its line has one; answers the place of its LF, or one behind the end.
-fn show_case(rt: HostRuntime, text: &[u8], at: usize) -> usize {
-    let end = tokens::line_end(text, at);
-    if end <= at {
-        return end;
-    }
-    if text.len() < end {
-        return end;
-    }
-    case(rt, &text[at..end]);
-    end
-}
-
-fn show_all(rt: HostRuntime, text: &[u8]) {
-    let mut at = 0;
-    let mut left = text.len();
-    while left > 0 {
-        let end = show_case(rt, text, at);
-        if end >= text.len() {
-            return;
-        }
-        at = end + 1;
-        left -= 1;
-    }
+    let mut out = [MARK; 8272];
+    let n = streams::within(room as usize, &out);
+    let out = &mut out[..n];
+    let length = streams::within(line.len(), &text);
+    let (answer, line, length) = match importer::import(&text[..length], &regs, entry, out) {
+        Ok(length) => (answers::DONE, 0, length),
+        Err(fault) => (u32::from(fault.refusal), fault.line, 0),
+    };
+    let all = Shown {
+        first: 0,
+        behind: 0,
+    };
+    outcomes::print_outcome(rt, answer, line, length, all, out);
 }
 
 fn main(rt: HostRuntime) {
     let mut text = streams::source_buffer();
-    let got = streams::read_all(&mut rt.stdin(), &mut text);
-    let n = got.count;
-    show_all(rt, &text[..n]);
+    let n = streams::read_all(&mut rt.stdin(), &mut text).unwrap_or_else(|cut| cut.count);
+    for line in text[..n].split(|b| *b == b'\n') {
+        match line {
+            [] => {}
+            [b'#', ..] => {
+                outcomes::print(rt, line);
+                outcomes::print(rt, b"\n");
+            }
+            _ => import(rt, line),
+        }
+    }
 }

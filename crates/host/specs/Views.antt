@@ -6,23 +6,23 @@ use Rattle.rules.specs.Rows as rows
 use Rattle.reasons.specs.Why as reasons
 use Rattle.sources.specs.Meaning as sources
 use Rattle.intel_hex.specs.Importing as hex
+use Rattle.rows.specs.declared.Row.{Row}
 use Rattle.rows.specs.Views.{table}
 use Rattle.machine.specs.Views.{state_of}
 use Rattle.machine.specs.declared.Processor.{Processor}
-use Rattle.report.specs.Wholes as report
 
 -- ---- what the contracts see
 
-abbrev pub loaded_by : Processor → ℕ → List ℕ → List ℕ → List ℕ → List ℕ → List ℕ → List (List ℕ) → rows.LentStepped
+abbrev pub loaded_by : Processor → ℕ → List ℕ → List ℕ → List ℕ → List ℕ → List ℕ → List Row → rows.LentStepped
 loaded_by cpu answer words owners jumpers writers readers lent = record { answer = answer; state = state_of cpu words owners jumpers writers readers; rows = table lent }
 
 abbrev pub checked_by : ℕ → ℕ → images.Checked
 checked_by answer n = record { answer = answer; size = n }
 
-abbrev pub stepped_by : Processor → ℕ → List ℕ → List ℕ → List ℕ → List ℕ → List ℕ → List (List ℕ) → rows.LentStepped
+abbrev pub stepped_by : Processor → ℕ → List ℕ → List ℕ → List ℕ → List ℕ → List ℕ → List Row → rows.LentStepped
 stepped_by cpu answer words owners jumpers writers readers lent = record { answer = answer; state = state_of cpu words owners jumpers writers readers; rows = table lent }
 
-abbrev pub ran_by : Processor → ℕ → ℕ → List ℕ → List ℕ → List ℕ → List ℕ → List ℕ → List (List ℕ) → rows.LentRan
+abbrev pub ran_by : Processor → ℕ → ℕ → List ℕ → List ℕ → List ℕ → List ℕ → List ℕ → List Row → rows.LentRan
 ran_by cpu answer count words owners jumpers writers readers lent = record { answer = answer; state = state_of cpu words owners jumpers writers readers; rows = table lent; count = count }
 
 -- all that a decoding hands back or may change

@@ -2,6 +2,8 @@
 #![tactic(auto)]
 
 ghost use Rattle.std.specs.Prelude.{◌≡◌, []};
+ghost use Rattle.std.specs.Result.{result_unwrap_or};
+ghost use Rattle.answers.specs.Numbers.{answer_of};
 ghost use Rattle.common.specs.Words.{decode, encode};
 ghost use Rattle.rules.specs.Rows.{lent_load, lent_step, lent_run};
 ghost use Rattle.reasons.specs.Why.{why};
@@ -16,7 +18,9 @@ ghost use Rattle.machine.specs.Views.{state_of};
 ghost use Rattle.loader.specs.Views.{lent};
 ghost use Rattle.host.specs.Views.{loaded_by, checked_by, stepped_by, ran_by, decoded_by, laid_out, told_by, all_told, encoded_by, written_by, assembled_by, imported_by};
 
+use answers::{Refusal, answer_of};
 use machine::Processor;
+use memory::Memories;
 use rows::Row;
 
 // Loads an image over whatever the record and the table held, for a run in a mode; a refused load leaves the blank record of that mode, and
@@ -38,16 +42,16 @@ pub fn kl_load(
         strict, bytes, words, owners, jumpers, writers, readers, rows,
     );
     *cpu = l.cpu;
-    l.answer
+    answer_of(&l.answer)
 }
 
 // Checks an image, with no memory: what a load into memories of 2,048 places would answer. n is N, or 0 where the image is refused.
 pub fn kl_check(bytes: &[u8], n: &mut u32) -> u32
     ensures { checked_by result n.new ≡ check bytes.now }
 {
-    let c = reader::check(bytes);
-    *n = c.size;
-    c.answer
+    let read = reader::check(bytes);
+    *n = read.unwrap_or(0);
+    answer_of(&read)
 }
 
 // One step; the rows move by what the counts move.
@@ -117,7 +121,14 @@ pub fn kl_why_of(
         next,
         services: *services,
     };
-    let w = why::why(cpu, words, owners, jumpers, writers, readers);
+    let lent = Memories {
+        words,
+        owners,
+        jumpers,
+        writers,
+        readers,
+    };
+    let w = why::why(cpu, &lent);
     *told = [w.answer, w.set, w.fault, w.place, w.owner, w.value, w.bits];
     w.answer
 }
@@ -126,18 +137,34 @@ pub fn kl_why_of(
 pub fn kl_decode(word: u32, fields: &mut [u32; 4]) -> u32
     ensures { decoded_by result fields.new ≡ laid_out (decode word) }
 {
-    let d = instructions::decode(word);
-    *fields = [d.op, d.a, d.b, d.low];
-    d.answer
+    match instructions::decode(word) {
+        Ok(i) => {
+            *fields = [i.op, i.a, i.b, i.low];
+            answers::DONE
+        }
+        Err(refusal) => {
+            *fields = [0; 4];
+            refusal.into()
+        }
+    }
 }
 
 // Puts a word together.
 pub fn kl_encode(op: u32, a: u32, b: u32, low: u32, word: &mut u32) -> u32
     ensures { encoded_by result word.new ≡ encode op a b low }
 {
-    let e = instructions::encode(op, a, b, low);
-    *word = e.word;
-    e.answer
+    let made = instructions::encode(op, a, b, low);
+    *word = made.unwrap_or(0);
+    answer_of(&made)
+}
+
+// The number of an answer; length is how many bytes were written, 0 where it is a refusal.
+fn tell(written: Result<usize, Refusal>, length: &mut usize) -> u32
+    ensures answered { result ≡ answer_of written }
+    ensures told { length.new ≡ result_unwrap_or written 0 }
+{
+    *length = written.unwrap_or(0);
+    answer_of(&written)
 }
 
 // Writes an image to the front of a buffer; length is how many bytes it takes.
@@ -150,19 +177,25 @@ pub fn kl_write(
 ) -> u32
     ensures { written_by result length.new out.new ≡ write words.now regs.now entry out.old }
 {
-    let w = writer::write(words, regs, entry, out);
-    *length = w.length;
-    w.answer
+    tell(writer::write(words, regs, entry, out), length)
 }
 
 // Assembles a source to the front of a buffer; line is the line at fault, and length how many bytes the image takes.
 pub fn kl_assemble(text: &[u8], out: &mut [u8], line: &mut u64, length: &mut usize) -> u32
     ensures { assembled_by result line.new length.new out.new ≡ assemble text.now out.old }
 {
-    let a = assembler::assemble(text, out);
-    *line = a.line;
-    *length = a.length;
-    a.answer
+    match assembler::assemble(text, out) {
+        Ok(image_length) => {
+            *line = 0;
+            *length = image_length;
+            answers::DONE
+        }
+        Err(fault) => {
+            *line = fault.line;
+            *length = 0;
+            fault.refusal.into()
+        }
+    }
 }
 
 // Imports a text of Intel HEX to the front of a buffer, with registers and an entry; line is the record at fault, and length how many
@@ -177,28 +210,32 @@ pub fn kl_import(
 ) -> u32
     ensures { imported_by result line.new length.new out.new ≡ import text.now regs.now entry out.old }
 {
-    let i = importer::import(text, regs, entry, out);
-    *line = i.line;
-    *length = i.length;
-    i.answer
+    match importer::import(text, regs, entry, out) {
+        Ok(made) => {
+            *line = 0;
+            *length = made;
+            answers::DONE
+        }
+        Err(at) => {
+            *line = at.line;
+            *length = 0;
+            at.refusal.into()
+        }
+    }
 }
 
 // Writes a source of words to the front of a buffer; length is how many bytes it takes.
 pub fn kl_disassemble(words: &[u32], out: &mut [u8], length: &mut usize) -> u32
     ensures { written_by result length.new out.new ≡ disassemble words.now out.old }
 {
-    let d = disassembler::disassemble(words, out);
-    *length = d.length;
-    d.answer
+    tell(disassembler::disassemble(words, out), length)
 }
 
 // Writes words as a text in the Intel HEX format to the front of a buffer; length is how many bytes it takes.
 pub fn kl_export(words: &[u32], out: &mut [u8], length: &mut usize) -> u32
     ensures { written_by result length.new out.new ≡ export words.now out.old }
 {
-    let e = exporter::export(words, out);
-    *length = e.length;
-    e.answer
+    tell(exporter::export(words, out), length)
 }
 
 // The addresses that a compartment owns, services counted.

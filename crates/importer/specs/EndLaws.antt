@@ -1,5 +1,5 @@
 -- The end of an import, as the code comes to it.
-use Rattle.std.specs.Prelude.{◌≡◌, Bool, true, false, cond, not, List, map, ◌≢◌, eqb}
+use Rattle.std.specs.Prelude.{◌≡◌, Bool, true, false, cond, not, List, map, ◌≢◌, eqb, Result, Err}
 use Rattle.std.proofs.Math.Path.{refl, sym, ap}
 use Rattle.std.proofs.Common.{◌∙◌, arith, take_at}
 use Prim.Native.Nat.{ℕ, ◌/◌, ◌%◌, ◌≤◌}
@@ -14,9 +14,11 @@ use Rattle.intel_hex.specs.Reading.{Reading, says, refused, reading}
 use Rattle.intel_hex.specs.Importing as meant
 use Rattle.intel_hex.specs.Importing.{past, filled, words_of, end_checks, end_verdict, refusal, accepted, image_of, import}
 use Rattle.intel_hex.proofs.Theorems.Accepted.{past_most}
-use Rattle.importer.specs.declared.Imported.{Imported}
-use Rattle.importer.specs.declared.reading.Outcome.{Outcome}
-use Rattle.importer.specs.Views.{imported_of, said, read_of, bare}
+use Rattle.answers.specs.declared.Refusal.{Refusal}
+use Rattle.answers.specs.declared.Fault.{Fault}
+use Rattle.importer.specs.declared.reading.Said as code
+use Rattle.answers.specs.Numbers.{number}
+use Rattle.importer.specs.Views.{imported_of, ended_of, said}
 
 -- what the writer hands out, as an import's
 abbrev seen : image.Written → meant.Imported
@@ -25,22 +27,22 @@ seen w = record { answer = w.answer; line = 0; length = w.length; out = w.out }
 -- ---- 65, 68 and 67
 
 module _ (ended : Bool) (base : ℕ) (m regs : List ℕ) (entry : ℕ) (out : List ℕ) where
-  abbrev whole : Imported → Type 0
-  whole r = imported_of r out ≡ image_of (says (said ended base m)) regs entry out
+  abbrev whole : ℕ → Type 0
+  whole k = refusal k 0 out ≡ image_of (says (said ended base m)) regs entry out
 
-  pub no_end : not ended ≡ true → (r : Imported) → r ≡ bare answer.no_end → whole r
+  pub no_end : not ended ≡ true → whole answer.no_end
   unfolding end_verdict end_checks first_of
-  no_end h r e = rw e (simp h)
+  no_end h = simp h
 
   module _ (h : not ended ≡ false) (p : ℕ) (ep : p ≡ past m) where
-    pub no_data : p ≡ 0 → (r : Imported) → r ≡ bare answer.no_data → whole r
+    pub no_data : p ≡ 0 → whole answer.no_data
     unfolding end_verdict end_checks first_of
-    no_data z r e = rw e (simp (h, ← ep, z))
+    no_data z = simp (h, ← ep, z)
 
     module _ (n : p ≢ 0) where
-      pub part_word : p % 4 ≢ 0 → (r : Imported) → r ≡ bare answer.part_word → whole r
+      pub part_word : p % 4 ≢ 0 → whole answer.part_word
       unfolding end_verdict end_checks first_of
-      part_word k r e = rw e (simp (h, ← ep, ne_eqb p 0 n, ne_eqb (p % 4) 0 k))
+      part_word k = simp (h, ← ep, ne_eqb p 0 n, ne_eqb (p % 4) 0 k)
 
       -- ---- then 25 and 31, which are the writer's
 
@@ -60,7 +62,7 @@ module _ (ended : Bool) (base : ℕ) (m regs : List ℕ) (entry : ℕ) (out : Li
         same = simp (h, ← ep, ne_eqb p 0 n, k, ← ew, le-leb 1 (length ws) some, le-leb (length ws) 2048 few)
 
         pub image_written : (answer length : ℕ) (new : List ℕ) → record { answer = answer; length = length; out = new } ≡ image.write ws regs entry out
-            → imported_of (record { answer = answer; line = 0; length = length }) new ≡ image_of (says (said ended base m)) regs entry out
+            → record { answer = answer; line = 0; length = length; out = new } ≡ image_of (says (said ended base m)) regs entry out
         unfolding image.write
         image_written answer length new e = ap seen e ∙ both (eqb v 0) ∙ rw (same, sym ew) refl
           where
@@ -91,15 +93,12 @@ module _ (m old ws : List ℕ) (n : ℕ) (e : ws ≡ over (fields (map filled m)
 
 -- ---- all of it
 
-module _ (text regs : List ℕ) (entry : ℕ) (out m : List ℕ) (r : Outcome) (h : read_of r m ≡ reading text) where
-  pub text_refused : r.answer ≢ answer.done → imported_of (record { answer = r.answer; line = r.line; length = 0 }) out ≡ import text regs entry out
+module _ (text regs : List ℕ) (entry : ℕ) (out : List ℕ) where
+  pub text_refused : (fault : Fault) → refused (number fault.refusal) fault.line ≡ reading text → imported_of (Err fault) out ≡ import text regs entry out
   unfolding import
-  text_refused n =
-      let e : refused r.answer r.line ≡ reading text = sym (rw (ne_eqb r.answer answer.done n) refl) ∙ h in
-      ap (λ (x : Reading). image_of x regs entry out) e
+  text_refused fault h = ap (λ (x : Reading). image_of x regs entry out) h
 
-  pub text_said : r.answer ≡ answer.done → (i : Imported) (new : List ℕ) → imported_of i new ≡ image_of (says (said r.ended 0 m)) regs entry out → imported_of i new ≡ import text regs entry out
+  pub text_said : (m : List ℕ) (s : code.Said) → says (said s.ended s.base m) ≡ reading text → (r : Result ℕ Refusal) (new : List ℕ)
+      → ended_of r new ≡ image_of (says (said s.ended 0 m)) regs entry out → (q : Result ℕ Fault) → imported_of q new ≡ ended_of r new → imported_of q new ≡ import text regs entry out
   unfolding import end_verdict end_checks
-  text_said z i new g =
-      let e : says (said r.ended r.base m) ≡ reading text = sym (rw z refl) ∙ h in
-      g ∙ ap (λ (x : Reading). image_of x regs entry out) e
+  text_said m s h r new g q e = e ∙ g ∙ ap (λ (x : Reading). image_of x regs entry out) h

@@ -1,7 +1,7 @@
 -- Places that hold bytes, as the code walks over them.
-use Rattle.std.specs.Prelude.{◌≡◌, true, false, List, [], ◌∷◌, ◌++◌, map, get_or, length, set, take}
+use Rattle.std.specs.Prelude.{◌≡◌, true, false, List, [], ◌∷◌, ◌++◌, map, get_or, length, set, take, drop}
 use Rattle.std.proofs.Math.Path.{refl}
-use Rattle.std.proofs.Common.{sym, ap, ◌∙◌, zero-add, take-suc, length-take-le}
+use Rattle.std.proofs.Common.{sym, ap, ◌∙◌, zero-add, take-suc, length-take-le, drop_of_length-le}
 use Prim.Native.Nat.{ℕ, suc, ◌+◌, ◌-◌, ◌*◌, ◌<◌, ◌≤◌}
 use native.Mathlib.Omega.{arith}
 use borrow.Author.Tests.{lt-ltb, le-ltb, ne_eqb}
@@ -11,30 +11,24 @@ use Rattle.grammar.specs.Laws.Runs.{front}
 use Rattle.rules.specs.Images.{field, fields, over}
 use Rattle.images.specs.Filling.{field_of, fields_more}
 use Rattle.intel_hex.specs.Records.{octet, octets}
-use Rattle.intel_hex.specs.Reading.{none, any_given, given}
+use Rattle.intel_hex.specs.Reading.{none, any_given}
 use Rattle.intel_hex.specs.Importing.{past, filled}
 
--- ---- whether a place up to p has its byte
+-- ---- whether some place has its byte
 
-pub given_starts : (m : List ℕ) (at n : ℕ) → given m at n ≡ given m at (at + n - at)
-given_starts m at n = let e : at + n - at ≡ n = omega arith in rw e refl
-
-module _ (m : List ℕ) (i p : ℕ) where
-  module _ (h : i < p) (l : p ≤ length m) where
-    more : p - i ≡ suc (p - (i + 1))
-    more = omega arith
-
-    pub given_here : get_or m i 0 < none → true ≡ given m i (p - i)
+module _ (m : List ℕ) (i : ℕ) where
+  module _ (h : i < length m) where
+    pub given_here : get_or m i 0 < none → true ≡ any_given (drop i m)
     unfolding any_given
-    given_here k = rw (more, front m i (omega arith), lt-ltb (get_or m i 0) none k) refl
+    given_here k = rw (front m i h, lt-ltb (get_or m i 0) none k) refl
 
-    pub given_turn : none ≤ get_or m i 0 → given m i (p - i) ≡ given m (i + 1) (p - (i + 1))
+    pub given_turn : none ≤ get_or m i 0 → any_given (drop i m) ≡ any_given (drop (i + 1) m)
     unfolding any_given
-    given_turn k = rw (more, front m i (omega arith), le-ltb (get_or m i 0) none k) refl
+    given_turn k = rw (front m i h, le-ltb (get_or m i 0) none k) refl
 
-  pub given_ends : p ≤ i → false ≡ given m i (p - i)
+  pub given_ends : length m ≤ i → false ≡ any_given (drop i m)
   unfolding any_given
-  given_ends h = let z : p - i ≡ 0 = omega arith in rw z refl
+  given_ends h = rw (drop_of_length-le m h) refl
 
 -- ---- a record's bytes, put one after the other
 

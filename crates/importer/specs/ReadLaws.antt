@@ -1,7 +1,7 @@
 -- All lines of a text, as the code walks from line to line.
 use Rattle.std.specs.Prelude.{◌≡◌, Bool, cond, List, [], ◌∷◌, ◌≢◌, ℕ, suc, ◌+◌, ◌-◌, ◌<◌, ◌≤◌, ltb, length, take, drop, replicate}
 use Rattle.std.proofs.Math.Path.{refl, sym, ap}
-use Rattle.std.proofs.Common.{◌∙◌, add-one, arith, lt-ltb, ltb-true, ne_eqb, length-drop, drop_of_length-le, drop-drop}
+use Rattle.std.proofs.Common.{◌∙◌, add-one, arith, lt-ltb, ltb-true, length-drop, drop_of_length-le, drop-drop}
 use Rattle.std.proofs.Math.Bool.{true, false}
 use Rattle.std.proofs.lemmas.Bool.{eqb-false}
 use Rattle.std.proofs.Math.Dec.{eqb}
@@ -10,7 +10,7 @@ use Rattle.common.proofs.Laws.Tests.{bool_ext}
 use Rattle.numerals.specs.Bytes.{feed}
 use Rattle.grammar.specs.Laws.Runs.{line_of, line_at, line_end}
 use Rattle.intel_hex.specs.Records.{Line, line, lines, onto, body}
-use Rattle.intel_hex.specs.Reading.{Said, record_verdict, with_record, Reading, says, refused, from, reading}
+use Rattle.intel_hex.specs.Reading.{Said, record_verdict, with_record, says, refused, from, reading}
 use Rattle.importer.specs.Views.{said}
 use Rattle.importer.specs.Steps.{Stepped, stepped}
 
@@ -71,9 +71,9 @@ module _ (text : List ℕ) (at : ℕ) (h : at < length text) (end : ℕ) (e : en
   -- ---- a turn of the walk
 
   module _ (s : Said) (n : ℕ) (w : reading text ≡ from s n (lines (drop at text))) (x : Stepped) (ex : x ≡ stepped s here) where
-    pub turn_refuses : x.answer ≢ answer.done → (y : Reading) → cond (eqb x.answer answer.done) y (refused x.answer (n + 1)) ≡ reading text
+    pub turn_refuses : x.answer ≢ answer.done → refused x.answer (n + 1) ≡ reading text
     unfolding from stepped
-    turn_refuses ne y = rw (ne_eqb x.answer answer.done ne) (go (eqb (record_verdict s here) answer.done) refl)
+    turn_refuses ne = go (eqb (record_verdict s here) answer.done) refl
       where
         go : (b : Bool) → eqb (record_verdict s here) answer.done ≡ b → refused x.answer (n + 1) ≡ reading text
         go true k = absurd (ne (rw k at (ap (λ (y : Stepped). y.answer) ex)))

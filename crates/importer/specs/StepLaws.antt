@@ -10,10 +10,13 @@ use Rattle.std.proofs.Math.Seq.{take-length}
 use Rattle.common.specs.Answers as answer
 use Rattle.common.specs.Tables.{first_of, NoneHolds}
 use Rattle.common.proofs.Laws.TableLaws.{nonzero, done_otherwise}
-use Rattle.intel_hex.specs.Records.{line, body, octet, octets, count, type, data_type, end_type, base_type, base_of, formed, wrong_count, sums_up, known}
+use Rattle.intel_hex.specs.Records.{line, body, octet, octets, count, type, data_type, end_type, base_type, base_of}
 use Rattle.intel_hex.specs.Reading.{room, Said, beyond, any_given, given, record_checks, record_verdict, with_record}
+use Rattle.answers.specs.declared.Refusal.{Refusal}
+use Rattle.answers.specs.Numbers.{number}
+use Rattle.answers.specs.Results.{number-not-0}
 use Rattle.importer.specs.Views.{said}
-use Rattle.importer.specs.Steps.{address_of, data_verdict, Fits, memory_by, stepped}
+use Rattle.importer.specs.Steps.{address_of, data_verdict, verdict_by, Fits, memory_by, stepped}
 
 -- ---- a line's record
 
@@ -54,55 +57,27 @@ module _ (base : ℕ) (m r : List ℕ) (n : ℕ) (e : n ≡ octet r 0) where
       unfolding data_verdict beyond
       once t = simp (← f, ← e, le-ltb room (at + n) (omega arith), ← eg, t)
 
--- ---- the table, row by row
+-- ---- a line's verdict, by its record
 
-module _ (s : Said) (whole : Bool) (r bytes : List ℕ) (e : r ≡ body bytes) where
-  pub after_end : s.ended ≡ true → answer.after_end ≡ record_verdict s (line bytes whole)
-  unfolding record_verdict record_checks first_of
-  after_end h = simp h
+data_rows : (base : ℕ) (m r : List ℕ) (b : Bool)
+    → cond (b && beyond (address_of base r) (count r)) answer.beyond_memory (cond (b && given m (address_of base r) (count r)) answer.byte_twice answer.done)
+    ≡ cond b (data_verdict base m r) answer.done
+unfolding data_verdict
+data_rows base m r true = refl
+data_rows base m r false = refl
 
-  module _ (z : s.ended ≡ false) where
-    pub no_feed : not whole ≡ true → answer.bad_record ≡ record_verdict s (line bytes whole)
-    unfolding record_verdict record_checks first_of
-    no_feed h = simp (z, h)
+pub verdict_is : (s : Said) (whole : Bool) (r bytes : List ℕ) → r ≡ body bytes → verdict_by s whole r ≡ record_verdict s (line bytes whole)
+unfolding verdict_by record_verdict record_checks first_of
+verdict_is s whole r bytes e = simp (← e, data_rows)
 
-    module _ (w : not whole ≡ false) (f : Bool) (ef : f ≡ formed r) where
-      pub not_formed : not f ≡ true → answer.bad_record ≡ record_verdict s (line bytes whole)
-      unfolding record_verdict record_checks first_of
-      not_formed h = simp (z, w, ← e, ← ef, h)
-
-      module _ (g : not f ≡ false) (c : Bool) (ec : c ≡ wrong_count r) where
-        pub wrong_count_lem : c ≡ true → answer.bad_record ≡ record_verdict s (line bytes whole)
-        unfolding record_verdict record_checks first_of
-        wrong_count_lem h = simp (z, w, ← e, ← ef, g, ← ec, h)
-
-        module _ (h : c ≡ false) (u : Bool) (eu : u ≡ sums_up r) where
-          pub bad_sum : not u ≡ true → answer.bad_sum ≡ record_verdict s (line bytes whole)
-          unfolding record_verdict record_checks first_of
-          bad_sum i = simp (z, w, ← e, ← ef, g, ← ec, h, ← eu, i)
-
-          module _ (i : not u ≡ false) (k : Bool) (ek : k ≡ known r) where
-            pub other_type : not k ≡ true → answer.other_type ≡ record_verdict s (line bytes whole)
-            unfolding record_verdict record_checks first_of
-            other_type j = simp (z, w, ← e, ← ef, g, ← ec, h, ← eu, i, ← ek, j)
-
-            module _ (j : not k ≡ false) (t : ℕ) (et : t ≡ octet r 3) where
-              pub no_data : t ≢ 0 → answer.done ≡ record_verdict s (line bytes whole)
-              unfolding record_verdict record_checks first_of
-              no_data n = simp (z, w, ← e, ← ef, g, ← ec, h, ← eu, i, ← ek, j, ← et, ne_eqb t 0 n)
-
-              pub some_data : t ≡ 0 → (v : ℕ) → v ≡ data_verdict s.base s.memory r → v ≡ record_verdict s (line bytes whole)
-              unfolding record_verdict record_checks first_of data_verdict
-              some_data n v ev = ev ∙ simp (z, w, ← e, ← ef, g, ← ec, h, ← eu, i, ← ek, j, ← et, n)
-
-  -- ---- what no check refuses has its places
-
-  pub fitting : answer.done ≡ record_verdict s (line bytes whole) → Fits s.base r
-  unfolding record_verdict record_checks NoneHolds beyond nonzero
-  fitting d t n =
-      let h = (done_otherwise (record_verdict s (line bytes whole)) (record_checks s (line bytes whole)) refl refl).0 (sym d) in
-      let b : (eqb (type r) data_type && (ltb room (address_of s.base r + count r) && not (eqb (count r) 0))) ≡ false = rw (sym e) at h.1.1.1.1.0 in
-      ltb-false room (address_of s.base r + count r) (sym (and-true (ltb room (address_of s.base r + count r))) ∙ rw (t, ne_eqb (count r) 0 n) at b)
+-- what no check refuses has its places
+pub fitting : (s : Said) (whole : Bool) (r bytes : List ℕ) → r ≡ body bytes → answer.done ≡ verdict_by s whole r → Fits s.base r
+unfolding record_verdict record_checks NoneHolds beyond nonzero
+fitting s whole r bytes e v t n =
+    let d = v ∙ verdict_is s whole r bytes e in
+    let h = (done_otherwise (record_verdict s (line bytes whole)) (record_checks s (line bytes whole)) refl refl).0 (sym d) in
+    let b : (eqb (type r) data_type && (ltb room (address_of s.base r + count r) && not (eqb (count r) 0))) ≡ false = rw (sym e) at h.1.1.1.1.0 in
+    ltb-false room (address_of s.base r + count r) (sym (and-true (ltb room (address_of s.base r + count r))) ∙ rw (t, ne_eqb (count r) 0 n) at b)
 
 -- ---- the bytes of a data record, put
 
@@ -128,13 +103,17 @@ module _ (base : ℕ) (m r : List ℕ) (t : ℕ) (et : t ≡ octet r 3) where
 
 -- ---- one line
 
-module _ (s : Said) (bytes : List ℕ) (whole : Bool) (v : ℕ) (e : v ≡ record_verdict s (line bytes whole)) where
-  pub line_refused : v ≢ answer.done → record { answer = v; now = s } ≡ stepped s (line bytes whole)
+module _ (s : Said) (whole : Bool) (r bytes : List ℕ) (er : r ≡ body bytes) where
+  pub line_refused : (e : Refusal) → number e ≡ verdict_by s whole r → record { answer = number e; now = s } ≡ stepped s (line bytes whole)
   unfolding stepped
-  line_refused n = simp (← e, ne_eqb v answer.done n)
+  line_refused e h =
+      let v = h ∙ verdict_is s whole r bytes er in
+      simp (← v, ne_eqb (number e) answer.done (number-not-0 e))
 
-  pub line_said : v ≡ answer.done → (r : List ℕ) → r ≡ body bytes → (ended : Bool) → ended ≡ (s.ended || eqb (type r) end_type)
+  pub line_said : answer.done ≡ verdict_by s whole r → (ended : Bool) → ended ≡ (s.ended || eqb (type r) end_type)
       → (base : ℕ) → base ≡ cond (eqb (type r) base_type) (base_of r) s.base → (m : List ℕ) → m ≡ memory_by s.base r s.memory
-      → record { answer = v; now = said ended base m } ≡ stepped s (line bytes whole)
+      → record { answer = answer.done; now = said ended base m } ≡ stepped s (line bytes whole)
   unfolding stepped with_record memory_by
-  line_said z r er ended ee base eb m em = simp (← e, z, ← er, ee, eb, em)
+  line_said h ended ee base eb m em =
+      let v = h ∙ verdict_is s whole r bytes er in
+      simp (← v, ← er, ee, eb, em)

@@ -1,10 +1,12 @@
 -- One line, as the code takes it: its verdict, the places its bytes go to, and what is said then.
-use Rattle.std.specs.Prelude.{◌≡◌, Bool, cond, List, ℕ, ◌+◌, ◌*◌, ◌≤◌, eqb}
+use Rattle.std.specs.Prelude.{◌≡◌, Bool, cond, not, ◌||◌, List, ℕ, ◌+◌, ◌*◌, ◌≤◌, eqb, Result, ⊤}
 use Rattle.std.proofs.lemmas.List.Edits.{sets}
 use Rattle.common.specs.Answers as answer
-use Rattle.intel_hex.specs.Records.{Line, line, body, count, offset, type, data_of, data_type}
+use Rattle.intel_hex.specs.Records.{Line, body, count, offset, type, data_of, data_type, formed, wrong_count, sums_up, known}
 use Rattle.intel_hex.specs.Reading.{room, Said, beyond, given, record_verdict, with_record}
-use Rattle.importer.specs.declared.reading.Step.{Step}
+use Rattle.answers.specs.declared.Refusal.{Refusal}
+use Rattle.answers.specs.Numbers.{answer_of}
+use Rattle.importer.specs.declared.reading.Said as code
 use Rattle.importer.specs.Views.{said}
 
 -- the address of a record's first byte, behind a base
@@ -16,9 +18,14 @@ unfoldable pub data_verdict : ℕ → List ℕ → List ℕ → ℕ
 data_verdict base memory r =
     cond (beyond (address_of base r) (count r)) answer.beyond_memory (cond (given memory (address_of base r) (count r)) answer.byte_twice answer.done)
 
--- a number is the verdict on every line that has this record
-abbrev pub Judged : ℕ → List ℕ → Bool → Said → Type 0
-Judged v r whole s = (bytes : List ℕ) → r ≡ body bytes → v ≡ record_verdict s (line bytes whole)
+-- the verdict on a line that has this record
+unfoldable pub verdict_by : Said → Bool → List ℕ → ℕ
+verdict_by s whole r =
+    cond s.ended answer.after_end
+    (cond (not whole || not (formed r) || wrong_count r) answer.bad_record
+    (cond (not (sums_up r)) answer.bad_sum
+    (cond (not (known r)) answer.other_type
+    (cond (eqb (type r) data_type) (data_verdict s.base s.memory r) answer.done))))
 
 -- a data record's bytes, if it has some, have their places
 abbrev pub Fits : ℕ → List ℕ → Type 0
@@ -32,8 +39,8 @@ pub record Stepped : Type 0 where
   pub answer : ℕ
   pub now : Said
 
-abbrev pub step_of : Step → List ℕ → Stepped
-step_of r memory = record { answer = r.answer; now = said r.ended r.base memory }
+abbrev pub step_of : Result ⊤ Refusal → code.Said → List ℕ → Stepped
+step_of r s memory = record { answer = answer_of r; now = said s.ended s.base memory }
 
 unfoldable pub stepped : Said → Line → Stepped
 stepped s l =

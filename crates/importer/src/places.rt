@@ -11,6 +11,7 @@ use crate::records::octet;
 // 2,048 words in bytes.
 pub(crate) const ROOM: usize = 8192;
 
+// kept: what may not change: intel_hex's `Said` holds numbers with 256 for none, and `octet` says up to 272 where a pair is no byte.
 pub(crate) const NONE: u16 = 256;
 
 // Whether some of the n places from a place on has its byte.
@@ -18,13 +19,11 @@ pub(crate) fn given(memory: &[u16], at: usize, n: usize) -> bool
     requires { at + n ≤ length memory.now }
     ensures { result ≡ given memory.now at n }
 {
-    let past = at + n;
-    let mut i = at;
-    while i < past {
-        if memory[i] < NONE {
+    let places = &memory[at..at + n];
+    for x in places {
+        if *x < NONE {
             return true;
         }
-        i += 1;
     }
     false
 }
@@ -34,11 +33,8 @@ pub(crate) fn put(memory: &mut [u16; ROOM], at: usize, pairs: &[u8], n: usize)
     requires { (n ≤ 272) × (at + n ≤ 8192) }
     ensures { memory.new ≡ sets memory.old at (octets pairs.now 4 n) }
 {
-    let mut i = 0;
-    while i < n {
-        let x = octet(pairs, 4 + i);
-        memory[at + i] = x as u16;
-        i += 1;
+    for i in 0..n {
+        memory[at + i] = octet(pairs, 4 + i) as u16;
     }
 }
 
@@ -46,12 +42,10 @@ pub(crate) fn put(memory: &mut [u16; ROOM], at: usize, pairs: &[u8], n: usize)
 pub(crate) fn past(memory: &[u16]) -> usize
     ensures { result ≡ past memory.now }
 {
-    let mut k = memory.len();
-    while 0 < k {
-        if memory[k - 1] < NONE {
-            return k;
+    for k in (0..memory.len()).rev() {
+        if memory[k] < NONE {
+            return k + 1;
         }
-        k -= 1;
     }
     0
 }
@@ -60,7 +54,7 @@ pub(crate) fn past(memory: &[u16]) -> usize
 fn filled(x: u16) -> u8
     ensures { result ≡ filled x }
 {
-    if x < NONE { x as u8 } else { 0 }
+    u8::try_from(x).unwrap_or(0)
 }
 
 // The word of the four places from a place on.
@@ -80,9 +74,7 @@ pub(crate) fn fill(words: &mut [u32; 2048], memory: &[u16; ROOM], n: usize)
     requires { (n ≤ 2048) × (length words.old ≡ 2048) }
     ensures { words.new ≡ over (fields (map filled memory.now) 0 n) words.old }
 {
-    let mut i = 0;
-    while i < n {
+    for i in 0..n {
         words[i] = word(memory, 4 * i);
-        i += 1;
     }
 }

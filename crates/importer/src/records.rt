@@ -1,6 +1,7 @@
 // The parts of a record, and what 60, 61 and 62 ask of it.
-ghost use Rattle.std.specs.Prelude.{◌≡◌, cond, ◌||◌, ◌+◌, ◌*◌, ◌≤◌, eqb, get_or, drop};
+ghost use Rattle.std.specs.Prelude.{◌≡◌, cond, ◌||◌, ◌+◌, ◌*◌, ◌≤◌, ◌<◌, eqb, get_or, drop, IfSome};
 ghost use Rattle.intel_hex.specs.Records.{digit_of, all_digits, octet, offset, type, end_type, base_type, base_of, formed, wrong_count, sums_up, known};
+ghost use Rattle.importer.specs.Views.{digit_by};
 
 // The types.
 pub(crate) const DATA: u32 = 0;
@@ -9,38 +10,28 @@ const END: u32 = 1;
 
 const BASE: u32 = 4;
 
-const COLON: u8 = 58;
+// What a byte that is no digit counts in a pair.
+const NO_DIGIT: u32 = 16;
 
 // The byte at a place, and 0 past the end.
 fn byte(pairs: &[u8], at: usize) -> u8
     ensures { result ≡ get_or pairs.now at 0 }
 {
-    if at < pairs.len() { pairs[at] } else { 0 }
+    pairs.get(at).copied().unwrap_or(0)
 }
 
-// The number of a digit in either case; and 16 for any other byte.
-fn digit(b: u8) -> u32
-    ensures { (result ≡ digit_of b) × (result ≤ 16) }
+// The number of a digit in either case.
+#[tactic(auto, using(std::proofs::lemmas::Bool::Decides::nat_tests), unfolding(intel_hex::specs::Records::digit_of))]
+fn digit(b: u8) -> Option<u32>
+    ensures number { digit_by result ≡ digit_of b }
+    ensures below { IfSome result (λ d. d < 16) }
 {
-    if b < 48 {
-        return 16;
+    match b {
+        b'0'..=b'9' => Some((b - b'0') as u32),
+        b'A'..=b'F' => Some((b - b'A') as u32 + 10),
+        b'a'..=b'f' => Some((b - b'a') as u32 + 10),
+        _ => None,
     }
-    if b <= 57 {
-        return (b - 48) as u32;
-    }
-    if b < 65 {
-        return 16;
-    }
-    if b <= 70 {
-        return (b - 55) as u32;
-    }
-    if b < 97 {
-        return 16;
-    }
-    if b <= 102 {
-        return (b - 87) as u32;
-    }
-    16
 }
 
 // The byte that a pair of digits says.
@@ -48,8 +39,8 @@ pub(crate) fn octet(pairs: &[u8], i: usize) -> u32
     requires { i ≤ 512 }
     ensures { (result ≡ octet pairs.now i) × (result ≤ 272) }
 {
-    let high = digit(byte(pairs, 2 * i + 1));
-    let low = digit(byte(pairs, 2 * i + 2));
+    let high = digit(byte(pairs, 2 * i + 1)).unwrap_or(NO_DIGIT);
+    let low = digit(byte(pairs, 2 * i + 2)).unwrap_or(NO_DIGIT);
     16 * high + low
 }
 
@@ -57,43 +48,35 @@ pub(crate) fn octet(pairs: &[u8], i: usize) -> u32
 fn all_digits(pairs: &[u8]) -> bool
     ensures { result ≡ all_digits (drop 1 pairs.now) }
 {
-    let mut i = 1;
-    while i < pairs.len() {
-        if digit(pairs[i]) == 16 {
+    for i in 1..pairs.len() {
+        if digit(pairs[i]).is_none() {
             return false;
         }
-        i += 1;
     }
     true
 }
 
 // A colon and digits, as many as the count says.
+#[tactic(auto, using(std::proofs::lemmas::Bool::Decides::nat_tests), unfolding(intel_hex::specs::Records::formed))]
 pub(crate) fn formed(pairs: &[u8]) -> bool
     ensures { result ≡ formed pairs.now }
 {
-    if byte(pairs, 0) != COLON {
-        return false;
-    }
-    if !all_digits(pairs) {
-        return false;
-    }
-    let count = octet(pairs, 0);
-    pairs.len() == 2 * (count as usize) + 11
+    byte(pairs, 0) == b':'
+        && all_digits(pairs)
+        && pairs.len() == 2 * (octet(pairs, 0) as usize) + 11
 }
 
 // Data in type 01, other than two bytes in type 04.
+#[tactic(auto, using(std::proofs::lemmas::Bool::Decides::nat_tests), unfolding(intel_hex::specs::Records::wrong_count))]
 pub(crate) fn wrong_count(pairs: &[u8]) -> bool
     ensures { result ≡ wrong_count pairs.now }
 {
     let count = octet(pairs, 0);
-    let kind = octet(pairs, 3);
-    if kind == END {
-        return count != 0;
+    match octet(pairs, 3) {
+        END => count != 0,
+        BASE => count != 2,
+        _ => false,
     }
-    if kind == BASE {
-        return count != 2;
-    }
-    false
 }
 
 // Whether the bytes of a record, the checksum with them, sum up to 0 modulo 256.
@@ -101,26 +84,19 @@ pub(crate) fn sums_up(pairs: &[u8]) -> bool
     ensures { result ≡ sums_up pairs.now }
 {
     let n = octet(pairs, 0) as usize + 5;
-    let mut sum: u32 = 0;
-    let mut i = 0;
-    while i < n {
-        sum = (sum + octet(pairs, i)) % 256;
-        i += 1;
+    let mut sum = 0;
+    for i in 0..n {
+        sum += octet(pairs, i);
     }
-    sum == 0
+    sum % 256 == 0
 }
 
+// One of the three types.
+#[tactic(auto, using(std::proofs::lemmas::Bool::Decides::nat_tests), unfolding(intel_hex::specs::Records::known))]
 pub(crate) fn known(pairs: &[u8]) -> bool
     ensures { result ≡ known pairs.now }
 {
-    let kind = octet(pairs, 3);
-    if kind == DATA {
-        return true;
-    }
-    if kind == END {
-        return true;
-    }
-    kind == BASE
+    matches!(octet(pairs, 3), DATA | END | BASE)
 }
 
 // The address of a data record's first byte, behind this base.
@@ -135,10 +111,7 @@ pub(crate) fn address(pairs: &[u8], base: u32) -> usize
 pub(crate) fn ended_by(pairs: &[u8], ended: bool) -> bool
     ensures { result ≡ (ended || eqb (type pairs.now) end_type) }
 {
-    if ended {
-        return true;
-    }
-    octet(pairs, 3) == END
+    ended || octet(pairs, 3) == END
 }
 
 // Bits 16 to 31 of the addresses behind this record.
@@ -146,7 +119,8 @@ pub(crate) fn base_by(pairs: &[u8], base: u32) -> u32
     ensures { result ≡ cond (eqb (type pairs.now) base_type) (base_of pairs.now) base }
 {
     if octet(pairs, 3) == BASE {
-        return 256 * octet(pairs, 4) + octet(pairs, 5);
+        256 * octet(pairs, 4) + octet(pairs, 5)
+    } else {
+        base
     }
-    base
 }

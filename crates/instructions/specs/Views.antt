@@ -1,15 +1,19 @@
 -- What is seen of the decoder's and the encoder's outcomes.
+use Rattle.std.specs.Prelude.{ℕ, Result, Ok, Err}
+use Rattle.common.specs.Answers as answer
 use Rattle.common.specs.Words as meant
-use Rattle.instructions.specs.declared.Decoded.{Decoded}
-use Rattle.instructions.specs.declared.Standing.{Standing}
-use Rattle.instructions.specs.declared.Encoded.{Encoded}
-
-abbrev pub decoded : Decoded → meant.Decoded
-decoded r = record { answer = r.answer; op = r.op; a = r.a; b = r.b; low = r.low }
+use Rattle.answers.specs.declared.Refusal.{Refusal}
+use Rattle.answers.specs.Numbers.{number}
+use Rattle.instructions.specs.declared.Instruction.{Instruction}
 
 -- the instruction that the fields would make
-abbrev pub standing : Standing → meant.Decoded
-standing r = meant.instruction r.op r.a r.b r.low
+abbrev pub standing : Instruction → meant.Decoded
+standing i = meant.instruction i.op i.a i.b i.low
 
-abbrev pub encoded : Encoded → meant.Encoded
-encoded r = record { answer = r.answer; word = r.word }
+abbrev pub decoded : Result Instruction Refusal → meant.Decoded
+decoded (Ok i) = standing i
+decoded (Err refusal) = meant.none (number refusal)
+
+abbrev pub encoded : Result ℕ Refusal → meant.Encoded
+encoded (Ok word) = record { answer = answer.done; word = word }
+encoded (Err refusal) = record { answer = number refusal; word = 0 }

@@ -2,10 +2,41 @@
 #![tactic(auto)]
 
 ghost use Rattle.std.specs.Prelude.{◌≡◌};
-ghost use Rattle.common.specs.Words.{allowed, op_of, a_of, b_of, low_of, pack, fault, decode, encode};
+ghost use Rattle.common.specs.Words.{pack, decode, encode};
 ghost use Rattle.instructions.specs.Masks.{used_of, fits_in, fields_of};
 ghost use Rattle.instructions.specs.Packing.{has_room, Room};
 ghost use Rattle.instructions.specs.Views.{decoded, standing, encoded};
+
+use answers::Refusal;
+
+// The opcodes by name, in the order of the table.
+pub const NOP: u32 = 0;
+
+pub const CONST: u32 = 1;
+
+pub const MOV: u32 = 2;
+
+pub const ADD: u32 = 3;
+
+pub const SUB: u32 = 4;
+
+pub const MUL: u32 = 5;
+
+pub const EQ: u32 = 6;
+
+pub const LEQ: u32 = 7;
+
+pub const LOAD: u32 = 8;
+
+pub const STORE: u32 = 9;
+
+pub const JUMP: u32 = 10;
+
+pub const JAL: u32 = 11;
+
+pub const BNZ: u32 = 12;
+
+pub const HALT: u32 = 13;
 
 // The bits of each field below the opcode; RD is the register in the lowest 4 bits of the low 16.
 const A: u32 = 0xF00000;
@@ -34,33 +65,18 @@ const USED: [u32; 14] = [
     0, // 13 Halt
 ];
 
-// A word's opcode and fields with answer 0, or answer 3 or 16 and zeros.
-#[derive(Clone, Copy)]
-pub struct Decoded {
-    pub answer: u32,
+/// A word's opcode and fields, as they stand in it. The opcode is a number, since a word that is no instruction has one too.
+#[derive(Clone, Copy, Debug, PartialEq, Eq)]
+pub struct Instruction {
     pub op: u32,
     pub a: u32,
     pub b: u32,
     pub low: u32,
 }
 
-// A word's opcode and fields as they stand: no answer, as nobody asked whether it is an instruction.
-#[derive(Clone, Copy)]
-pub struct Standing {
-    pub op: u32,
-    pub a: u32,
-    pub b: u32,
-    pub low: u32,
-}
-
-// A word with answer 0, or answer 30 and 0.
-#[derive(Clone, Copy)]
-pub struct Encoded {
-    pub answer: u32,
-    pub word: u32,
-}
-
-// The row of an opcode. Each row is named by its own number: an index that varies would have the table built anew at each call.
+// The row of an opcode.
+// kept: tried, slower: an index that varies has the table built anew at each call, so each arm names its row by its own number
+#[tactic(auto, unfolding(crate::specs::Masks::used_of, common::specs::Words::row))]
 pub fn used(op: u32) -> u32
     ensures { result ≡ used_of op }
 {
@@ -84,6 +100,7 @@ pub fn used(op: u32) -> u32
 }
 
 // Whether a word sets no bit below its opcode that an opcode leaves unused.
+#[tactic(auto, unfolding(crate::specs::Masks::fits_in))]
 pub fn fits(word: u32, op: u32) -> bool
     ensures { result ≡ fits_in word op }
 {
@@ -92,10 +109,10 @@ pub fn fits(word: u32, op: u32) -> bool
 }
 
 // The opcode and the fields of a word as they stand, whether it is an instruction or not.
-pub fn fields(word: u32) -> Standing
+pub fn fields(word: u32) -> Instruction
     ensures { standing result ≡ fields_of word }
 {
-    Standing {
+    Instruction {
         op: word / 16777216,
         a: word / 1048576 % 16,
         b: word / 65536 % 16,
@@ -103,63 +120,22 @@ pub fn fields(word: u32) -> Standing
     }
 }
 
-// Whether the opcode is one of the fourteen and no unused bit is set.
-fn is_instruction(word: u32) -> bool
-    ensures { result ≡ allowed (op_of word) (a_of word) (b_of word) (low_of word) }
-{
-    let op = word / 16777216;
-    if 13 < op {
-        return false;
-    }
-    fits(word, op)
-}
-
 // Whether four numbers have room in a word.
 fn has_room(op: u32, a: u32, b: u32, low: u32) -> bool
     ensures { result ≡ has_room op a b low }
 {
-    if op >= 14 {
-        return false;
-    }
-    if a >= 16 {
-        return false;
-    }
-    if b >= 16 {
-        return false;
-    }
-    low < 65536
+    op < 14 && a < 16 && b < 16 && low < 65536
 }
 
-// Why a word of this opcode is no instruction; asked only of a word that is none.
-fn fault(op: u32) -> u32
-    ensures { result ≡ fault op }
-{
-    if op < 14 {
-        return answers::STRAY_BIT;
-    }
-    answers::NO_INSTRUCTION
-}
-
-// Takes a word apart; any word.
-pub fn decode(word: u32) -> Decoded
+/// Takes a word apart: the opcode is one of the fourteen, and no unused bit is set; or says which of the two is not so.
+pub fn decode(word: u32) -> Result<Instruction, Refusal>
     ensures { decoded result ≡ decode word }
 {
-    if !is_instruction(word) {
-        return Decoded {
-            answer: fault(word / 16777216),
-            op: 0,
-            a: 0,
-            b: 0,
-            low: 0,
-        };
-    }
-    let i = fields(word);
-    Decoded {
-        answer: answers::DONE,
-        op: i.op,
-        a: i.a,
-        b: i.b,
-        low: i.low,
+    let instruction = fields(word);
+    match instruction.op {
+        NOP..=HALT if fits(word, instruction.op) => Ok(instruction),
+        NOP..=HALT => Err(Refusal::StrayBit),
+        _ => Err(Refusal::NoInstruction),
     }
 }
 
@@ -171,28 +147,17 @@ fn packed(op: u32, a: u32, b: u32, low: u32) -> u32
     op * 16777216 + a * 1048576 + b * 65536 + low
 }
 
-fn no_word() -> Encoded
-    ensures { result ≡ record { answer = 30; word = 0 } }
-{
-    Encoded {
-        answer: answers::NO_WORD,
-        word: 0,
-    }
-}
-
-// Puts a word together; any four numbers.
-pub fn encode(op: u32, a: u32, b: u32, low: u32) -> Encoded
+/// Puts a word together; any four numbers.
+pub fn encode(op: u32, a: u32, b: u32, low: u32) -> Result<u32, Refusal>
     ensures { encoded result ≡ encode op a b low }
 {
     if !has_room(op, a, b, low) {
-        return no_word();
+        return Err(Refusal::NoWord);
     }
     let word = packed(op, a, b, low);
-    if !is_instruction(word) {
-        return no_word();
-    }
-    Encoded {
-        answer: answers::DONE,
-        word,
+    if fits(word, op) {
+        Ok(word)
+    } else {
+        Err(Refusal::NoWord)
     }
 }

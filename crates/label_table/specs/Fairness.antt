@@ -1,5 +1,6 @@
 -- A table that insertions made: a chain has all entries of its hash, the newest first, so a label is found if it was put in.
-use Rattle.std.specs.Prelude.{◌≡◌, Bool, cond, List, [], ◌∷◌, length}
+use Rattle.std.specs.Prelude as rust
+use Rattle.std.specs.Prelude.{◌≡◌, Bool, cond, List, [], ◌∷◌, length, Some, None}
 use Rattle.std.proofs.Math.Path.{refl, ap}
 use Rattle.std.proofs.Common.{sym, ◌∙◌, arith, eqb-true, eq-eqb}
 use Rattle.std.proofs.Math.Bool.{true, false}
@@ -9,8 +10,9 @@ use Rattle.std.proofs.Math.Dec.{eqb}
 use Rattle.common.proofs.Laws.Tests.{clash, both}
 use Rattle.grammar.specs.Reading.Lexer.{same}
 use Rattle.sources.specs.Labels.{Site}
-use Rattle.label_table.specs.Table.{most, hash_on, hash, count, head, name, site_of, link, is_entry, walk, looked}
-use Rattle.label_table.specs.Steps.{walk_here}
+use Rattle.label_table.specs.declared.Table.{Table}
+use Rattle.label_table.specs.Table.{most, hash_on, hash, count, head, name, site_of, link, walk, looked}
+use Rattle.label_table.specs.Steps.{walk_none, walk_here}
 
 -- ---- a name's hash
 
@@ -30,23 +32,24 @@ same_hash h (b ∷ x) (c ∷ y) e =
 
 -- ---- the entries of a table, the newest first
 
-module _ (text table : List ℕ) where
+module _ (text : List ℕ) (table : Table) where
   -- the newest of the first n entries that is in chain h
-  unfoldable pub latest : ℕ → ℕ → ℕ
-  latest h zero = 0
-  latest h (suc n) = cond (eqb (hash (name text table (suc n))) h) (suc n) (latest h n)
+  unfoldable pub latest : ℕ → ℕ → rust.Option ℕ
+  latest h zero = None
+  latest h (suc n) = cond (eqb (hash (name text table n)) h) (Some n) (latest h n)
 
   -- the newest of the first n entries that has a name
   unfoldable pub search : List ℕ → ℕ → Option Site
   search x zero = none
-  search x (suc n) = cond (same x (name text table (suc n))) (some (site_of table (suc n))) (search x n)
+  search x (suc n) = cond (same x (name text table n)) (some (site_of table n)) (search x n)
 
   -- each head and each link is the newest entry of its chain among those that were there: so insertions make a table
   pub record Fair : Type 0 where
-    pub size : length table ≡ 9217
+    pub chains : length table.newest ≡ 1024
+    pub size : length table.entries ≡ most
     pub held : count table ≤ most
     pub heads : (h : ℕ) → h < 1024 → head table h ≡ latest h (count table)
-    pub links : (n : ℕ) → n < count table → link table (suc n) ≡ latest (hash (name text table (suc n))) n
+    pub links : (n : ℕ) → n < count table → link table n ≡ latest (hash (name text table n)) n
 
   -- ---- a chain, walked, finds what a search through all entries finds
 
@@ -58,28 +61,24 @@ module _ (text table : List ℕ) where
         go true s = clash (eq-eqb (hash y) (hash x) (sym (same_hash 0 x y s))) e
         go false s = s
 
-    walk_end : (k : ℕ) → walk text table x k 0 ≡ none
-    unfolding walk is_entry
-    walk_end zero = refl
-    walk_end (suc k) = refl
-
     module _ (fair : Fair) where
       walk_search : (n k : ℕ) → n ≤ k → n ≤ count table → walk text table x k (latest (hash x) n) ≡ search x n
       unfolding latest search
-      walk_search zero k l m = walk_end k
+      walk_search zero k l m = walk_none text table x k
       walk_search (suc n) zero l m = absurd (omega arith)
       walk_search (suc n) (suc k) l m =
-          go (eqb (hash (name text table (suc n))) (hash x)) refl (walk_search n k (omega arith) (omega arith)) (walk_search n (suc k) (omega arith) (omega arith))
+          go (eqb (hash (name text table n)) (hash x)) refl (walk_search n k (omega arith) (omega arith)) (walk_search n (suc k) (omega arith) (omega arith))
         where
-          go : (b : Bool) → eqb (hash (name text table (suc n))) (hash x) ≡ b
+          go : (b : Bool) → eqb (hash (name text table n)) (hash x) ≡ b
               → walk text table x k (latest (hash x) n) ≡ search x n
               → walk text table x (suc k) (latest (hash x) n) ≡ search x n
               → walk text table x (suc k) (latest (hash x) (suc n)) ≡ search x (suc n)
           go true e on here =
               let held : count table ≤ most = fair.held in
-              let next : link table (suc n) ≡ latest (hash x) n = fair.links n (omega arith) ∙ ap (λ (h : ℕ). latest h n) (eqb-true (hash (name text table (suc n))) (hash x) e) in
-              rw e (walk_here text table x k (suc n) (omega arith) (omega arith) ∙ rw (next, on) refl)
-          go false e on here = rw (e, other_name (name text table (suc n)) e) here
+              let size : length table.entries ≡ most = fair.size in
+              let next : link table n ≡ latest (hash x) n = fair.links n (omega arith) ∙ ap (λ (h : ℕ). latest h n) (eqb-true (hash (name text table n)) (hash x) e) in
+              rw e (walk_here text table x k n (omega arith) ∙ rw (next, on) refl)
+          go false e on here = rw (e, other_name (name text table n) e) here
 
       pub looked_search : looked text table x ≡ search x (count table)
       unfolding looked

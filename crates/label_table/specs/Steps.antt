@@ -1,16 +1,17 @@
 -- The steps of hashing a name and of walking a chain, as the code comes to them.
-use Rattle.std.specs.Prelude.{◌≡◌, Bool, true, false, cond, List, [], get_or, set}
-use Rattle.std.proofs.Math.Path.{refl, sym, ap}
-use Rattle.std.proofs.Common.{◌∙◌}
-use Rattle.std.proofs.Math.Option.{none, some}
-use Prim.Native.Nat.{ℕ, suc, ◌+◌, ◌-◌, ◌*◌, ◌%◌, ◌<◌, ◌≤◌}
-use native.Mathlib.Omega.{arith}
-use borrow.Author.Tests.{le-leb, lt-leb, le-ltb, lt-ltb}
+use Rattle.std.specs.Prelude as rust
+use Rattle.std.specs.Prelude.{◌≡◌, Bool, true, false, cond, List, [], ℕ, zero, suc, ◌+◌, ◌*◌, ◌%◌, ◌<◌, ◌≤◌, leb, length, get_or, Some, None}
+use Rattle.std.proofs.Math.Path.{refl}
+use Rattle.std.proofs.Math.Option.{Option, none, some}
+use borrow.Author.Tests.{le-ltb, lt-ltb, leb-true, leb-false}
 use Rattle.grammar.specs.Spelling.{in_word}
 use Rattle.grammar.specs.Reading.Lexer.{same}
 use Rattle.grammar.specs.Laws.Runs.{name_at}
+use Rattle.sources.specs.Labels.{Site}
 use Rattle.tokens.specs.Names.{name_more}
-use Rattle.label_table.specs.Table.{most, hash_on, head, hash, entry, name, site_of, link, is_entry, walk, looked, count, added, inserted}
+use Rattle.label_table.specs.declared.Entry.{Entry}
+use Rattle.label_table.specs.declared.Table.{Table}
+use Rattle.label_table.specs.Table.{most, hash_on, hash, count, head, entry, found, looked, name, site_of, link, walk, added, inserted}
 
 -- ---- a name, byte by byte
 
@@ -26,56 +27,59 @@ module _ (text : List ℕ) (h p : ℕ) where
 
 -- ---- a chain, entry by entry
 
-module _ (text table x : List ℕ) where
-  pub walk_here : (k n : ℕ) → 1 ≤ n → n ≤ most
-      → walk text table x (suc k) n ≡ cond (same x (name text table n)) (some (site_of table n)) (walk text table x k (link table n))
-  unfolding walk is_entry
-  walk_here k n l m = simp (le-leb 1 n l, le-leb n most m)
+module _ (text : List ℕ) (table : Table) (x : List ℕ) where
+  pub walk_none : (k : ℕ) → walk text table x k None ≡ none
+  unfolding walk
+  walk_none zero = refl
+  walk_none (suc k) = refl
 
-  pub looked_begins : (h : ℕ) → h ≡ hash x → looked text table x ≡ walk text table x most (get_or table (h + 1) 0)
+  pub walk_past : (k n : ℕ) → length table.entries ≤ n → walk text table x k (Some n) ≡ none
+  unfolding walk
+  walk_past zero n l = refl
+  walk_past (suc k) n l = simp (le-ltb n (length table.entries) l)
+
+  pub walk_here : (k n : ℕ) → n < length table.entries
+      → walk text table x (suc k) (Some n) ≡ cond (same x (name text table n)) (some (site_of table n)) (walk text table x k (link table n))
+  unfolding walk
+  walk_here k n l = simp (lt-ltb n (length table.entries) l)
+
+  pub looked_begins : (h : ℕ) → h ≡ hash x → looked text table x ≡ walk text table x most (get_or table.newest h None)
   unfolding looked head
   looked_begins h e = rw e refl
 
-  module _ (left n : ℕ) where
-    pub walked : left ≤ 0 → none ≡ walk text table x left n
+  -- what is left to walk finds o
+  module _ (o : Option Site) (k : ℕ) (next : rust.Option ℕ) (w : o ≡ walk text table x k next) where
+    pub not_found : k ≡ 0 → None ≡ found o
     unfolding walk
-    walked l = let z : left ≡ 0 = omega arith in rw z refl
+    not_found z = rw (w, z) refl
 
-    module _ (more : 0 < left) where
-      again : left ≡ suc (left - 1)
-      again = omega arith
+    pub no_more : next ≡ None → None ≡ found o
+    no_more e = rw (w, e, walk_none k) refl
 
-      pub no_entry : n < 1 → none ≡ walk text table x left n
-      unfolding walk is_entry
-      no_entry l = rw (again, lt-leb 1 n l) refl
+    module _ (n : ℕ) (e : next ≡ Some n) where
+      pub no_entry : length table.entries ≤ n → None ≡ found o
+      no_entry l = rw (w, e, walk_past k n l) refl
 
-      pub past_entries : 1 ≤ n → most < n → none ≡ walk text table x left n
-      unfolding walk is_entry
-      past_entries l m = rw (again, le-leb 1 n l, lt-leb n most m) refl
-
-      module _ (first : 1 ≤ n) (last : n ≤ most) (s : Bool) (e : s ≡ same x (name_at text (get_or table (entry n) 0))) where
-        pub walk_found : s ≡ true → some (site_of table n) ≡ walk text table x left n
+      module _ (j : ℕ) (more : k ≡ suc j) (l : n < length table.entries) (i : Entry) (at : i ≡ entry table n) (s : Bool) (named : s ≡ same x (name_at text i.place)) where
+        here : o ≡ cond s (some (site_of table n)) (walk text table x j (link table n))
         unfolding name
-        walk_found t = rw (again, walk_here (left - 1) n first last, sym e ∙ t) refl
+        here = rw (w, more, e, walk_here j n l, named, at) refl
 
-        pub walk_on : s ≡ false → walk text table x left n ≡ walk text table x (left - 1) (get_or table (entry n + 3) 0)
-        unfolding name link
-        walk_on t = ap (λ (k : ℕ). walk text table x k n) again ∙ rw (walk_here (left - 1) n first last, sym e ∙ t) refl
+        pub is_found : s ≡ true → Some i.definition ≡ found o
+        unfolding site_of
+        is_found t = rw (here, t, at) refl
 
--- ---- six stores, where there is room
+        pub walk_on : s ≡ false → o ≡ walk text table x j i.older
+        unfolding link
+        walk_on t = rw (here, t, at) refl
 
-module _ (text table : List ℕ) (place line words : ℕ) where
-  pub stays : most ≤ count table → table ≡ inserted text table place line words
+-- ---- a label put in, where there is room
+
+module _ (text : List ℕ) (table : Table) (place line words : ℕ) where
+  pub stays : leb most (count table) ≡ true → table ≡ inserted text table place line words
   unfolding inserted
-  stays l = simp (le-ltb (count table) most l)
+  stays e = simp (le-ltb (count table) most (leb-true most (count table) e))
 
-  pub puts_in : count table < most → (h n : ℕ) → h ≡ hash (name_at text place) → n ≡ count table + 1
-      → set (set (set (set (set (set table (entry n) place) (entry n + 1) line) (entry n + 2) words) (entry n + 3) (get_or table (h + 1) 0)) (h + 1) n) 0 n
-      ≡ inserted text table place line words
-  unfolding inserted added head
-  puts_in l h n e m =
-      let one : entry n + 1 ≡ suc (entry n) = omega arith in
-      let two : entry n + 2 ≡ suc (suc (entry n)) = omega arith in
-      let three : entry n + 3 ≡ suc (suc (suc (entry n))) = omega arith in
-      let k : n ≡ suc (count table) = omega arith in
-      rw (one, two, three, lt-ltb (count table) most l, ← k, ← e) refl
+  pub puts_in : leb most (count table) ≡ false → (h : ℕ) → h ≡ hash (name_at text place) → added table h place line words ≡ inserted text table place line words
+  unfolding inserted
+  puts_in e h k = simp (lt-ltb (count table) most (leb-false most (count table) e), k)

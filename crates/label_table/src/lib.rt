@@ -1,103 +1,112 @@
-// The first labels of a text, in a lent array with hashed chains: a label is found in a few steps, however many there are.
+// The first labels of a text, in a table of fixed size with hashed chains: a label is found in a few steps, however many there are.
 #![tactic(auto)]
 
 ghost use Rattle.std.specs.Prelude.{◌≡◌, ◌<◌, leb};
 ghost use Rattle.grammar.specs.Laws.Runs.{name_at};
-ghost use Rattle.label_table.specs.Table.{most, hash, count, looked, found, inserted};
+ghost use Rattle.label_table.specs.Table.{most, hash, count, looked, found, inserted, empty};
 
 use tokens::{folded, same_name};
 
-// How many numbers a table has: the count, 1,024 heads, and four for each label.
-pub const SIZE: usize = 9217;
+// How many labels a table can hold.
+const MOST: usize = 2048;
 
-// How many labels it can hold.
-const MOST: u64 = 2048;
+const CHAINS: usize = 1024;
 
-// Entries are numbered from 1, so that 0 is none: entry n stands 4 n places after this one.
-const ENTRIES: usize = 1021;
-
-// Whether a label is there, and how many lines and words stand before its line.
-#[derive(Clone, Copy)]
-pub struct Found {
-    pub there: bool,
+/// Where a label is defined: how many lines and how many words stand before its line.
+#[derive(Clone, Copy, Debug, PartialEq, Eq)]
+pub struct Definition {
     pub line: u64,
     pub words: u64,
 }
 
-const NONE: Found = Found {
-    there: false,
-    line: 0,
-    words: 0,
+// The place of a label's name, where it is defined, and the label of the same chain that was put in before it.
+#[derive(Clone, Copy)]
+struct Entry {
+    place: usize,
+    definition: Definition,
+    older: Option<usize>,
+}
+
+const BLANK: Entry = Entry {
+    place: 0,
+    definition: Definition { line: 0, words: 0 },
+    older: None,
 };
+
+/// The labels of a text that were put in, and the newest of each chain.
+// kept: a rule of the project (fixed memory): no map, whose memory is not fixed
+#[derive(Drop)]
+pub struct Table {
+    count: usize,
+    newest: [Option<usize>; CHAINS],
+    entries: [Entry; MOST],
+}
 
 // The chain of the name at a place.
 fn hash(text: &[u8], place: usize) -> usize
     ensures { (result ≡ hash (name_at text.now place)) × (result < 1024) }
 {
     let mut h = 0;
-    let mut p = place;
-    while p < text.len() {
+    for p in place..text.len() {
         let b = text[p];
-        if folded(b) == 0 {
+        if folded(b).is_none() {
             return h;
         }
-        h = (h * 131 + b as usize) % 1024;
-        p += 1;
+        h = (h * 131 + usize::from(b)) % CHAINS;
     }
     h
 }
 
-// Whether there is room for no more labels.
-pub fn is_full(table: &[u64; SIZE]) -> bool
-    ensures { result ≡ leb most (count table.now) }
-{
-    MOST <= table[0]
-}
-
-// The label whose name stands at a place. The walk is bounded, so it ends whatever the array holds.
-pub fn find(text: &[u8], table: &[u64; SIZE], place: usize) -> Found
-    ensures { result ≡ found (looked text.now table.now (name_at text.now place)) }
-{
-    let mut n = table[hash(text, place) + 1];
-    let mut left = MOST;
-    while 0 < left {
-        if n < 1 {
-            return NONE;
+impl Table {
+    /// A table with no label.
+    pub fn new() -> Table
+        ensures { result ≡ empty }
+    {
+        Table {
+            count: 0,
+            newest: [None; CHAINS],
+            entries: [BLANK; MOST],
         }
-        if MOST < n {
-            return NONE;
-        }
-        let at = ENTRIES + 4 * (n as usize);
-        let name = table[at] as usize;
-        if same_name(text, place, name) {
-            return Found {
-                there: true,
-                line: table[at + 1],
-                words: table[at + 2],
-            };
-        }
-        n = table[at + 3];
-        left -= 1;
     }
-    NONE
-}
 
-// Puts a label in, at the front of its chain; a full table stays as it is.
-pub fn insert(text: &[u8], table: &mut [u64; SIZE], place: usize, line: u64, words: u64)
-    ensures { table.new ≡ inserted text.now table.old place line words }
-{
-    let count = table[0];
-    if MOST <= count {
-        return;
+    /// Whether there is room for no more labels.
+    pub fn is_full(&self) -> bool
+        ensures { result ≡ leb most (count self.now) }
+    {
+        MOST <= self.count
     }
-    let n = count + 1;
-    let h = hash(text, place);
-    let newest = table[h + 1];
-    let at = ENTRIES + 4 * (n as usize);
-    table[at] = place as u64;
-    table[at + 1] = line;
-    table[at + 2] = words;
-    table[at + 3] = newest;
-    table[h + 1] = n;
-    table[0] = n;
+
+    /// The label whose name stands at a place. The walk is bounded, so it ends whatever the table holds.
+    pub fn find(&self, text: &[u8], place: usize) -> Option<Definition>
+        ensures { result ≡ found (looked text.now self.now (name_at text.now place)) }
+    {
+        let mut next = self.newest[hash(text, place)];
+        for _turn in 0..MOST {
+            let entry = self.entries.get(next?)?;
+            if same_name(text, place, entry.place) {
+                return Some(entry.definition);
+            }
+            next = entry.older;
+        }
+        None
+    }
+
+    /// Puts a label in, at the front of its chain; a full table stays as it is.
+    pub fn insert(&mut self, text: &[u8], place: usize, definition: Definition)
+        ensures { self.new ≡ inserted text.now self.old place definition.line definition.words }
+    {
+        if self.is_full() {
+            return;
+        }
+        let n = self.count;
+        let h = hash(text, place);
+        let older = self.newest[h];
+        self.entries[n] = Entry {
+            place,
+            definition,
+            older,
+        };
+        self.newest[h] = Some(n);
+        self.count = n + 1;
+    }
 }

@@ -14,8 +14,7 @@ use Rattle.grammar.specs.Reading.Shapes.{shape_of}
 use Rattle.grammar.specs.Laws.Runs.{name_at, line_at}
 use Rattle.sources.specs.Texts.{Reading, reading}
 use Rattle.sources.specs.Labels.{holds, defines}
-use Rattle.tokens.specs.declared.Taken.{Taken}
-use Rattle.tokens.specs.Streams.{stream, token_at}
+use Rattle.tokens.specs.Streams.{Handed, stream, token_at}
 use Rattle.tokens.specs.StreamLaws.{stream_line}
 use Rattle.tokens.specs.Heads.{head}
 use Rattle.labels.specs.Locating.{held_by}
@@ -59,13 +58,13 @@ module _ (text : List ℕ) (at : ℕ) where
   pub label_named : (x : List ℕ) → reading (line_at text at) ≡ got (labelled x) → name_at text (token_at text at).place ≡ x
   label_named x e = sym ((head text at (name x) (colon ∷ []) (line_says (labelled x) e).written).named x refl)
 
-  pub defines_name : (x : List ℕ) (shape : ℕ) (t : Taken) (r : Bool) → shape ≡ shape_of (reading (line_at text at)) → shape ≡ 1
+  pub defines_name : (x : List ℕ) (shape : ℕ) (t : Handed) (r : Bool) → shape ≡ shape_of (reading (line_at text at)) → shape ≡ 1
       → t ≡ token_at text at → r ≡ same x (name_at text t.place) → r ≡ defines x (reading (line_at text at))
   defines_name x shape t r s o e h = go (reading (line_at text at)) refl s
     where
       go : (l : Reading) → reading (line_at text at) ≡ l → shape ≡ shape_of l → r ≡ defines x l
       go (got nothing) k s = absurd (omega arith)
-      go (got (labelled y)) k s = h ∙ ap (λ (u : Taken). same x (name_at text u.place)) e ∙ ap (same x) (label_named y k)
+      go (got (labelled y)) k s = h ∙ ap (λ (u : Handed). same x (name_at text u.place)) e ∙ ap (same x) (label_named y k)
       go (got (instruction i)) k s = absurd (omega arith)
       go (got (value v)) k s = absurd (omega arith)
       go fault k s = absurd (omega arith)

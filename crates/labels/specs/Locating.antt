@@ -5,6 +5,7 @@ use Rattle.common.specs.Instructions.{bit}
 use Rattle.grammar.specs.Reading.Shapes.{word}
 use Rattle.sources.specs.Texts.{readings}
 use Rattle.sources.specs.Labels.{Site, first}
+use Rattle.label_table.specs.declared.Table.{Table}
 use Rattle.label_table.specs.Table.{looked}
 
 -- how many words a line of a shape holds
@@ -16,5 +17,5 @@ or_else (some s) o = some s
 or_else none o = o
 
 -- `complete`: the table holds every label of the text
-abbrev pub located : List ℕ → List ℕ → Bool → List ℕ → Option Site
+abbrev pub located : List ℕ → Table → Bool → List ℕ → Option Site
 located text table complete x = or_else (looked text table x) (cond complete none (first x (readings text)))

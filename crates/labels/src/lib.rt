@@ -7,70 +7,66 @@ ghost use Rattle.grammar.specs.Reading.Shapes.{shape_of};
 ghost use Rattle.sources.specs.Texts.{reading, readings};
 ghost use Rattle.sources.specs.Labels.{defines, first};
 ghost use Rattle.label_table.specs.Table.{found};
+ghost use Rattle.syntax.specs.Seen.{seen_shape};
 ghost use Rattle.labels.specs.Locating.{held_by, located};
 
-use label_table::{Found, SIZE};
+use answers::Refusal;
+use label_table::{Definition, Table};
+use syntax::Shape;
+
+/// A text with a table of its labels, which is complete if it holds every label of the text.
+#[derive(Clone, Copy)]
+pub struct Labels<'a> {
+    pub text: &'a [u8],
+    pub table: &'a Table,
+    pub complete: bool,
+}
+
+impl Labels<'_> {
+    /// The first line that defines the label whose name stands at a place: from the table, or else, where the table does not hold
+    /// every label, from the text.
+    pub fn locate(&self, place: usize) -> Option<Definition>
+        ensures { result ≡ found (located self.now.text.now self.now.table.now self.now.complete (name_at self.now.text.now place)) }
+    {
+        match self.table.find(self.text, place) {
+            None if !self.complete => scan(self.text, place),
+            found => found,
+        }
+    }
+}
 
 // Whether the line at a place, which has this shape, defines the label whose name stands at another place.
-fn defines(text: &[u8], at: usize, shape: u32, place: usize) -> bool
-    requires { shape ≡ shape_of (reading (line_at text.now at)) }
+fn defines(text: &[u8], at: usize, shape: Result<Shape, Refusal>, place: usize) -> bool
+    requires { seen_shape shape ≡ shape_of (reading (line_at text.now at)) }
     ensures { result ≡ defines (name_at text.now place) (reading (line_at text.now at)) }
 {
-    if shape != syntax::LABEL {
-        return false;
-    }
-    let t = tokens::token(text, at);
-    tokens::same_name(text, place, t.place)
+    matches!(shape, Ok(Shape::Label))
+        && tokens::same_name(text, place, tokens::token(text, at).place)
 }
 
 // How many words a line of this shape holds.
-pub fn held(shape: u32) -> u64
-    ensures { result ≡ held_by shape }
+#[tactic(auto, unfolding(crate::specs::Locating::held_by))]
+pub fn held(shape: Result<Shape, Refusal>) -> u64
+    ensures { result ≡ held_by (seen_shape shape) }
 {
-    if shape == syntax::WORD {
-        return 1;
-    }
-    0
+    u64::from(matches!(shape, Ok(Shape::Word)))
 }
 
 // The first line of the text that defines the label whose name stands at a place.
-pub fn scan(text: &[u8], place: usize) -> Found
+pub fn scan(text: &[u8], place: usize) -> Option<Definition>
     ensures { result ≡ found (first (name_at text.now place) (readings text.now)) }
 {
     let mut at = 0;
-    let mut line: u64 = 0;
-    let mut words: u64 = 0;
+    let mut definition = Definition { line: 0, words: 0 };
+    // kept: the new form is no plainer: each line begins behind the end of the one before, which a call tells
     while at <= text.len() {
         let shape = syntax::shape(text, at);
         if defines(text, at, shape, place) {
-            return Found {
-                there: true,
-                line,
-                words,
-            };
+            return Some(definition);
         }
-        words += held(shape);
-        line += 1;
+        definition.line += 1;
+        definition.words += held(shape);
         at = tokens::line_end(text, at) + 1;
     }
-    Found {
-        there: false,
-        line: 0,
-        words: 0,
-    }
-}
-
-// The first line that defines the label whose name stands at a place: from the table, or else, where the table does not hold every
-// label, from the text.
-pub fn locate(text: &[u8], table: &[u64; SIZE], complete: bool, place: usize) -> Found
-    ensures { result ≡ found (located text.now table.now complete (name_at text.now place)) }
-{
-    let f = label_table::find(text, table, place);
-    if f.there {
-        return f;
-    }
-    if complete {
-        return f;
-    }
-    scan(text, place)
+    None
 }

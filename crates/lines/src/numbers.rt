@@ -1,34 +1,27 @@
 // Whole numbers in the program's arguments.
 use std::rt::Env;
 
+// Numbers from this on take no further digit.
+const FULL: u32 = 429496729;
+
 // A decimal digit goes on a number; a number past 32 bits stays at the largest.
 fn grown(number: u32, digit: u8) -> u32 {
-    if digit < 48 {
-        return number;
+    match digit.checked_sub(b'0') {
+        None => number,
+        Some(_) if number >= FULL => u32::MAX,
+        Some(d) => number * 10 + u32::from(d % 10),
     }
-    let d = (digit - 48) as u32 % 10;
-    if number > 429496728 {
-        return 4294967295;
-    }
-    number * 10 + d
 }
 
 fn value(digits: &[u8]) -> u32 {
-    let mut number = 0;
-    let mut i = 0;
-    while i < digits.len() {
-        number = grown(number, digits[i]);
-        i += 1;
-    }
-    number
+    digits.iter().fold(0, |number, digit| grown(number, *digit))
 }
 
-// Argument i as a number, or the one that is meant where it is missing.
-pub fn argument(rt: HostRuntime, i: usize, otherwise: u32) -> u32 {
+/// Argument i as a number, or the one that is meant where it is missing.
+pub fn argument(rt: &impl Env, i: usize, otherwise: u32) -> u32 {
     let mut digits = [0u8; 16];
     match rt.arg(i, &mut digits) {
-        Ok(0) => otherwise,
-        Ok(n) => value(&digits[..n]),
-        Err(_) => otherwise,
+        Ok(n) if n > 0 => value(&digits[..n]),
+        _ => otherwise,
     }
 }

@@ -1,28 +1,29 @@
 -- A load that is lent a table: the load without one, with 18 after 27, and the rows filled where it answers 0.
-use Rattle.std.specs.Prelude.{◌≡◌, Bool, true, cond, ◌&&◌, List, ◌≢◌, ℕ, eqb, replicate}
-use Rattle.std.proofs.Math.Path.{refl, ap}
-use Rattle.std.proofs.Common.{sym, ap₂, ◌∙◌, arith}
-use Rattle.std.proofs.Math.Bool.{false, not}
-use borrow.Author.Tests.{eqb-true, eqb-false, eq-eqb, ne_eqb, not-true, not-false}
-use Rattle.std.proofs.Math.ListN.{length}
+use Rattle.std.specs.Prelude.{◌≡◌, Bool, true, false, cond, not, List, ◌≢◌, ℕ, eqb, length}
+use Rattle.std.proofs.Common.{refl, sym, ap, ap₂, ◌∙◌, arith}
+use borrow.Author.Tests.{eqb-true, eqb-false, eq-eqb, ne_eqb}
 use Rattle.common.specs.Answers as answer
-use Rattle.common.proofs.Laws.Tests.{both, clash}
 use Rattle.common.specs.Tables.{first_of}
 use Rattle.rules.specs.Compartments.{numbers}
 use Rattle.rules.specs.State.{Processor, State}
 use Rattle.rules.specs.Checks.{lengths_differ}
 use Rattle.rules.specs.Laws.Tested.{same_lengths}
 use Rattle.rules.proofs.Laws.TestedRows.{lengths_row}
-use Rattle.rules.specs.Images.{size_in, entry_in, words_of, regs_of, load_checks, load_verdict, fresh, blank, loaded, not_loaded, load, Loaded}
+use Rattle.rules.specs.Images.{size_in, load_checks, load_verdict, loaded, not_loaded, load, Loaded}
 use Rattle.rules.specs.Rows.{Row, fresh_rows, LentStepped, lent_load}
 use Rattle.rules.proofs.Theorems.Rows.{lent_load_lem, load_18}
 use Rattle.images.specs.Filling.{length_fields}
 use Rattle.form.specs.Form.{lengths_by}
+use Rattle.rows.specs.declared.Row as lent
 use Rattle.rows.specs.Views.{table}
 use Rattle.rows.specs.TableLaws.{length_table}
-use Rattle.loader.specs.Views.{lent}
+use Rattle.answers.specs.declared.Refusal.{Refusal}
+use Rattle.answers.specs.Numbers.{answer_of}
+use Rattle.loader.specs.declared.Loaded as code
+use Rattle.loader.specs.Views.{lent, loaded_with}
+use Rattle.loader.specs.Loading.{Refused}
 
-module _ (strict : Bool) (bytes words owners jumpers writers readers : List ℕ) (rows : List (List ℕ)) (b : Bool) (lacks : b ≡ (lengths_by strict (length words) (length owners) (length jumpers) (length writers) (length readers) && not (eqb (length rows) numbers))) where
+module _ (strict : Bool) (bytes words owners jumpers writers readers : List ℕ) (rows : List lent.Row) where
   abbrev old : State
   old = lent words owners jumpers writers readers
 
@@ -31,25 +32,24 @@ module _ (strict : Bool) (bytes words owners jumpers writers readers : List ℕ)
   agree = refl
 
   -- 18
-  pub lacking : b ≡ true → (cpu : Processor) → cpu ≡ fresh strict 0 (replicate 16 0) 0
-      → record { answer = answer.bad_rows; state = record { cpu = cpu; words = words; owners = owners; jumpers = jumpers; writers = writers; readers = readers }; rows = table rows } ≡ lent_load strict bytes old (table rows)
-  unfolding not_loaded blank
-  lacking h cpu c =
-      let t = both _ _ (sym lacks ∙ h) in
-      let d : lengths_differ strict old ≡ false = lengths_row strict old ∙ ap not (sym agree ∙ t.0) in
-      let n : length (table rows) ≢ numbers = λ q. eqb-false _ _ (not-true _ t.1) (sym (length_table rows) ∙ q) in
-      simp c (sym (load_18 (table rows) strict bytes old n ∙ simp d))
+  pub lacking : lengths_by strict (length words) (length owners) (length jumpers) (length writers) (length readers) ≡ true → length rows ≢ numbers
+      → (r : code.Loaded) → Refused strict Refusal.BadRows r → loaded_with r words owners jumpers writers readers rows ≡ lent_load strict bytes old (table rows)
+  unfolding not_loaded
+  lacking s n r h =
+      let d : lengths_differ strict old ≡ false = lengths_row strict old ∙ ap not (sym agree ∙ s) in
+      ap₂ (λ (a : ℕ) (c : Processor). record { answer = a; state = record { cpu = c; words = words; owners = owners; jumpers = jumpers; writers = writers; readers = readers }; rows = table rows }) (ap answer_of h.1) h.0
+      ∙ sym (load_18 (table rows) strict bytes old (λ q. n (sym (length_table rows) ∙ q)) ∙ simp d)
 
-  module _ (h : b ≡ false) (l : Loaded) (e : l ≡ load strict bytes old) where
+  module _ (h : lengths_by strict (length words) (length owners) (length jumpers) (length writers) (length readers) ≡ true → length rows ≡ numbers) (l : Loaded) (e : l ≡ load strict bytes old) where
     -- 64 rows, or 27
     either : (P : LentStepped → Type 0) → (length (table rows) ≡ numbers → P (lent_load strict bytes old (table rows)))
         → (length (table rows) ≢ numbers → lengths_differ strict old ≡ true → P (lent_load strict bytes old (table rows))) → P (lent_load strict bytes old (table rows))
-    either P all few = go (eqb (length rows) numbers) (same_lengths strict old) refl refl
+    either P all few = go (eqb (length (table rows)) numbers) (same_lengths strict old) refl refl
       where
-        go : (c d : Bool) → eqb (length rows) numbers ≡ c → same_lengths strict old ≡ d → P (lent_load strict bytes old (table rows))
-        go true d x y = all (length_table rows ∙ eqb-true _ _ x)
-        go false false x y = few (λ q. eqb-false _ _ x (sym (length_table rows) ∙ q)) (lengths_row strict old ∙ ap not y)
-        go false true x y = let z : true ≡ false = simp (agree, x, y) at (sym lacks ∙ h) in clash refl z
+        go : (c d : Bool) → eqb (length (table rows)) numbers ≡ c → same_lengths strict old ≡ d → P (lent_load strict bytes old (table rows))
+        go true d x y = all (eqb-true _ _ x)
+        go false false x y = few (eqb-false _ _ x) (lengths_row strict old ∙ ap not y)
+        go false true x y = absurd (eqb-false _ _ x (length_table rows ∙ h (agree ∙ y)))
 
     differ_answer : lengths_differ strict old ≡ true → load strict bytes old ≡ record { answer = answer.lengths_differ; state = not_loaded strict old }
     unfolding load load_verdict load_checks first_of

@@ -4,6 +4,7 @@ use Rattle.rules.specs.State as rules
 use Rattle.rules.specs.Step as step
 use Rattle.rules.specs.Run as run
 use Rattle.rules.specs.Rows as rows
+use Rattle.rows.specs.declared.Row.{Row}
 use Rattle.rows.specs.Views.{table}
 use Rattle.machine.specs.declared.Processor.{Processor}
 use Rattle.machine.specs.declared.Stepped.{Stepped}
@@ -27,8 +28,8 @@ abbrev pub ran_of : Ran → List ℕ → List ℕ → List ℕ → List ℕ → 
 ran_of r words owners jumpers writers readers = record { answer = r.answer; state = state_of r.cpu words owners jumpers writers readers; count = r.count }
 
 -- and in the table that they are lent
-abbrev pub stepped_with : Stepped → List ℕ → List ℕ → List ℕ → List ℕ → List ℕ → List (List ℕ) → rows.LentStepped
+abbrev pub stepped_with : Stepped → List ℕ → List ℕ → List ℕ → List ℕ → List ℕ → List Row → rows.LentStepped
 stepped_with r words owners jumpers writers readers lent = record { answer = r.answer; state = state_of r.cpu words owners jumpers writers readers; rows = table lent }
 
-abbrev pub ran_with : Ran → List ℕ → List ℕ → List ℕ → List ℕ → List ℕ → List (List ℕ) → rows.LentRan
+abbrev pub ran_with : Ran → List ℕ → List ℕ → List ℕ → List ℕ → List ℕ → List Row → rows.LentRan
 ran_with r words owners jumpers writers readers lent = record { answer = r.answer; state = state_of r.cpu words owners jumpers writers readers; rows = table lent; count = r.count }

@@ -9,6 +9,7 @@ ghost use Rattle.rights.specs.Arrivals.{prev_of, jumped_of};
 ghost use Rattle.rows.specs.Views.{table};
 ghost use Rattle.machine.specs.Views.{state_of, stepped_of, ran_of, stepped_with, ran_with};
 
+use reach::{Call, Caller};
 use rights::arrival;
 use rows::{ROWS, Row};
 
@@ -136,6 +137,7 @@ impl Processor {
         let mut arrival = arrival::unasked(prev, jumped);
         let mut regs = self.regs;
         let mut services = self.services;
+        // kept: the new form is no plainer: the steps go on until an answer or the budget ends them, in two loops that share one count
         while count < budget {
             while pc < n {
                 if budget <= count {
@@ -152,31 +154,41 @@ impl Processor {
                 memory::put_word(words, n, m.place, m.word);
                 pc = m.pc;
                 arrival = m.arrival;
-                count = count + 1;
+                count += 1;
             }
             if budget <= count {
                 break;
             }
             let caller = arrival::prev_of(arrival);
-            let s = service::serve(
-                &regs,
-                strict,
-                n,
-                pc,
-                caller,
-                arrival::jumped_of(arrival),
+            let call = Call {
+                caller: Caller {
+                    strict,
+                    n,
+                    number: caller,
+                },
+                regs: &regs,
                 next,
                 services,
-                words,
-                owners,
-                jumpers,
-                writers,
-                readers,
-            );
-            let answer = s.answer;
-            if answer != answers::DONE {
-                return ended(n, strict, regs, pc, arrival, next, services, answer, count);
-            }
+            };
+            let jumped = arrival::jumped_of(arrival);
+            let s = match service::serve(
+                &call, pc, jumped, words, owners, jumpers, writers, readers,
+            ) {
+                Ok(s) => s,
+                Err(refusal) => {
+                    return ended(
+                        n,
+                        strict,
+                        regs,
+                        pc,
+                        arrival,
+                        next,
+                        services,
+                        u32::from(refusal),
+                        count,
+                    );
+                }
+            };
             rows::settle(rows, caller, s.to, s.owned, s.jump, s.store);
             pc = regs[15];
             arrival = arrival::unasked(s.number, true);
@@ -198,6 +210,7 @@ impl Processor {
     }
 
     // One step: a run of budget 1.
+    // kept: what may not change: the sheet asks for methods with self and with mut self (B-80)
     pub fn step_rows(
         mut self,
         words: &mut [u32],
@@ -229,11 +242,12 @@ impl Processor {
     ) -> Ran
         ensures { ran_of result words.new owners.new jumpers.new writers.new readers.new ≡ run budget (state_of self words.old owners.old jumpers.old writers.old readers.old) }
     {
-        let mut rows = [[0u32; 3]; ROWS];
+        let mut rows = [Row::NONE; ROWS];
         self.run_rows(words, owners, jumpers, writers, readers, budget, &mut rows)
     }
 
     // One step: a run of budget 1.
+    // kept: what may not change: the sheet asks for methods with self and with mut self (B-80)
     pub fn step(
         mut self,
         words: &mut [u32],

@@ -1,16 +1,21 @@
 // What is drawn of one word: its owner's character, and its marks.
-use crate::places::plus;
+use machine::Processor;
+use memory::{Memories, set_at, word_at};
 
 // The marks of a word.
-pub(crate) const PC: u32 = 0;
+#[derive(Clone, Copy, PartialEq, Eq)]
+pub(crate) enum Mark {
+    Pc,
+    Jump,
+    Store,
+    Read,
+}
 
-pub(crate) const JUMP: u32 = 1;
+impl Mark {
+    pub(crate) const ALL: [Mark; 4] = [Mark::Pc, Mark::Jump, Mark::Store, Mark::Read];
+}
 
-pub(crate) const STORE: u32 = 2;
-
-pub(crate) const READ: u32 = 3;
-
-// The kinds of mark in a mode: readers are kept in strict mode alone.
+// How many of the marks a mode has: readers are kept in strict mode alone.
 pub(crate) fn kinds(strict: bool) -> u32 {
     if strict { 4 } else { 3 }
 }
@@ -26,41 +31,47 @@ pub(crate) struct Cell {
     pub(crate) strict: bool,
 }
 
+impl Cell {
+    // What is known of word x.
+    pub(crate) fn at(x: u32, cpu: Processor, lent: &Memories<'_>) -> Cell {
+        Cell {
+            owner: word_at(lent.owners, x),
+            jumpers: set_at(lent.jumpers, x),
+            writers: set_at(lent.writers, x),
+            readers: set_at(lent.readers, x),
+            here: cpu.pc == x,
+            strict: cpu.strict,
+        }
+    }
+
+    pub(crate) fn has(self, mark: Mark) -> bool {
+        match mark {
+            Mark::Pc => self.here,
+            Mark::Jump => granted(self.strict, self.jumpers),
+            Mark::Store => self.writers != 0,
+            Mark::Read => self.strict && self.readers != 0,
+        }
+    }
+}
+
 // The character of a compartment's number.
-pub(crate) fn glyph(owner: u32) -> u8 {
+pub(crate) fn glyph(owner: u32) -> char {
     let all = b"0123456789abcdefghijklmnopqrstuvwxyzABCDEFGHIJKLMNOPQRSTUVWXYZ+*";
-    let i = owner as usize;
-    if i < 64 { all[i] } else { 63 }
+    all.get(owner as usize)
+        .map_or('?', |sign| char::from(*sign))
 }
 
 // Whether a set has a number that owns no service: the services may return to every word, and that is no grant to mark.
 fn granted(strict: bool, set: u64) -> bool {
-    if set % 2 == 1 {
-        return true;
-    }
     let above = if strict { set / 32 } else { set / 16 };
-    above != 0
-}
-
-// Whether a word has a mark.
-pub(crate) fn marked(kind: u32, cell: Cell) -> bool {
-    match kind {
-        PC => cell.here,
-        JUMP => granted(cell.strict, cell.jumpers),
-        STORE => cell.writers != 0,
-        _ => cell.strict && cell.readers != 0,
-    }
+    set % 2 == 1 || above != 0
 }
 
 // How many words a compartment owns.
-pub(crate) fn words_of(c: u32, n: u32, owners: &[u32]) -> u32 {
-    let mut count = 0;
-    let mut x = 0;
-    while x < n {
-        if memory::word_at(owners, x) == c {
-            count = plus(count, 1);
-        }
-        x += 1;
-    }
-    count
+pub(crate) fn words_of(c: u32, n: u32, owners: &[u32]) -> usize {
+    owners
+        .iter()
+        .take(n as usize)
+        .filter(|owner| **owner == c)
+        .count()
 }

@@ -11,95 +11,62 @@ mod shapes;
 mod shown;
 
 use lines::numbers::argument;
-use lines::{complain, end, note};
-use machine::Ran;
+use lines::status::Status;
+use lines::{end, give_up};
+use loader::room::Room;
+use std::io;
 
-// The statuses of a run: it halted, stopped, was refused, used its budget, or could not be drawn.
-pub const HALTED: u32 = 0;
+/// How a map is drawn: in characters, or as a picture in SVG.
+#[derive(Clone, Copy, Debug, PartialEq, Eq)]
+pub enum Form {
+    Text,
+    Picture,
+}
 
-pub const STOPPED: u32 = 1;
-
-pub const REFUSED: u32 = 2;
-
-pub const USED_UP: u32 = 3;
-
-pub const NOT_DRAWN: u32 = 4;
-
-fn status_of(answer: u32) -> u32 {
-    match answer {
-        0 => USED_UP,
-        1 => HALTED,
-        _ => STOPPED,
+impl From<u32> for Form {
+    fn from(form: u32) -> Form {
+        match form {
+            1 => Form::Picture,
+            _ => Form::Text,
+        }
     }
 }
 
-// Draws what a run came to; answers its status.
-fn draw(
-    rt: HostRuntime,
-    form: u32,
-    ran: Ran,
-    words: &[u32],
-    owners: &[u32],
-    jumpers: &[u64],
-    writers: &[u64],
-    readers: &[u64],
-) -> u32 {
-    let drawn = if form == 1 {
-        picture::draw(rt, ran, words, owners, jumpers, writers, readers)
-    } else {
-        plain::draw(rt, ran, owners, jumpers, writers, readers)
-    };
-    if !drawn {
-        complain(rt, b"the map could not be written\n");
-        return NOT_DRAWN;
+/// Runs an image in a mode, at most `budget` steps, and draws its memory in a form; answers its status.
+pub fn map<R: Print + Eprint, F: Into<Form>>(
+    rt: &R,
+    strict: bool,
+    bytes: &[u8],
+    budget: u32,
+    form: F,
+) -> io::Result<Status> {
+    let form: Form = form.into();
+    let mut room = Room::<2048>::new();
+    let l = room.load(strict, bytes);
+    if let Err(refusal) = l.answer {
+        let _ = eprintln!(rt; "refused {}", u32::from(refusal));
+        return Ok(Status::Refused);
     }
-    status_of(ran.answer)
+    let ran = room.run(l.cpu, budget);
+    let lent = room.lent();
+    match form {
+        Form::Text => plain::draw(rt, ran, &lent)?,
+        Form::Picture => picture::draw(rt, ran, &lent)?,
+    }
+    Ok(Status::of(ran.answer))
 }
 
-// Runs an image in a mode, at most `budget` steps, and draws its memory in a form; answers its status.
-pub fn map(rt: HostRuntime, strict: bool, bytes: &[u8], budget: u32, form: u32) -> u32 {
-    let mut words = [0u32; 2048];
-    let mut owners = [0u32; 2048];
-    let mut jumpers = [0u64; 2048];
-    let mut writers = [0u64; 2048];
-    let mut readers = [0u64; 2048];
-    let l = loader::load(
-        strict,
-        bytes,
-        &mut words,
-        &mut owners,
-        &mut jumpers,
-        &mut writers,
-        &mut readers,
-    );
-    if l.answer != answers::DONE {
-        note(rt, b"refused ", l.answer);
-        return REFUSED;
-    }
-    let cpu = l.cpu;
-    let ran = cpu.run(
-        &mut words,
-        &mut owners,
-        &mut jumpers,
-        &mut writers,
-        &mut readers,
-        budget,
-    );
-    draw(rt, form, ran, &words, &owners, &jumpers, &writers, &readers)
-}
-
-// Draws the image on standard input.
+/// Draws the image on standard input.
 pub fn map_input(rt: HostRuntime) {
     let mut bytes = [0u8; 8273];
-    let got = streams::read_all(&mut rt.stdin(), &mut bytes);
-    if got.failed {
-        complain(rt, b"the image could not be read\n");
-        end(rt, NOT_DRAWN);
-        return;
+    let Ok(n) = streams::read_all(&mut rt.stdin(), &mut bytes) else {
+        return give_up(&rt, "the image could not be read");
+    };
+    let budget = argument(&rt, 1, 100000);
+    let strict = argument(&rt, 2, 0) == 1;
+    let form = argument(&rt, 3, 0);
+    match map(&rt, strict, &bytes[..n], budget, form) {
+        Ok(status) => end(&rt, status),
+        Err(_) => give_up(&rt, "the map could not be written"),
     }
-    let n = got.count;
-    let budget = argument(rt, 1, 100000);
-    let strict = argument(rt, 2, 0) == 1;
-    let form = argument(rt, 3, 0);
-    end(rt, map(rt, strict, &bytes[..n], budget, form));
 }

@@ -1,5 +1,5 @@
 -- What a call of a monitor service comes to, and what is seen of it.
-use Rattle.std.specs.Prelude.{ℕ, cond, List, ◌==◌, slice_index}
+use Rattle.std.specs.Prelude.{ℕ, cond, List, ◌==◌, slice_index, Result, Ok, Err}
 use Rattle.common.specs.Answers as answer
 use Rattle.common.specs.Instructions.{bit, reg, plus}
 use Rattle.common.specs.Services.{service_count}
@@ -8,10 +8,11 @@ use Rattle.rules.specs.Checks.{set_a, set_j, set_s, set_r}
 use Rattle.rules.specs.Laws.Tested.{isolate_verdict, add_verdict}
 use Rattle.rules.specs.Laws.CountLaws.{differs, differing}
 use Rattle.rules.specs.Step.{owned, joined, joined_services, join_at}
+use Rattle.answers.specs.declared.Refusal.{Refusal}
+use Rattle.answers.specs.Numbers.{number}
 use Rattle.monitor.specs.declared.Isolated.{Isolated}
-use Rattle.monitor.specs.declared.Added.{Added}
 -- the caller's numbers and the lent memories, at a service
-pub use Rattle.reach.specs.Called.{called}
+pub use Rattle.reach.specs.Called.{called, called_by, lent_to}
 
 -- ---- isolate: the answer, the services' sets, the four memories of tags, and how many of the owners, the sets I and the sets W changed
 
@@ -25,6 +26,11 @@ pub record Isolating : Type 0 where
   pub owned : ℕ
   pub jump : ℕ
   pub store : ℕ
+
+-- isolate stopped with this answer: the services' sets are as they were
+abbrev pub not_isolated : ℕ → List ℕ → List ℕ → List ℕ → List ℕ → List ℕ → Isolating
+not_isolated a services owners jumpers writers readers =
+    record { answer = a; services = services; owners = owners; jumpers = jumpers; writers = writers; readers = readers; owned = 0; jump = 0; store = 0 }
 
 -- where the checks answer 0 the tags change as the rules' `isolated` has it, and else nothing does
 unfoldable pub isolating : State → Isolating
@@ -43,21 +49,13 @@ isolating s =
           (differing (service_count s.cpu.strict) s.cpu.services (joined_services (set_j s) s.cpu.next s.cpu.services));
       store = differing s.cpu.n s.writers (joined s.cpu.n (set_s s) s.cpu.next s.writers);
     })
-    (record {
-      answer = isolate_verdict s s.cpu.prev;
-      services = s.cpu.services;
-      owners = s.owners;
-      jumpers = s.jumpers;
-      writers = s.writers;
-      readers = s.readers;
-      owned = 0;
-      jump = 0;
-      store = 0;
-    })
+    (not_isolated (isolate_verdict s s.cpu.prev) s.cpu.services s.owners s.jumpers s.writers s.readers)
 
-abbrev pub isolating_of : Isolated → List ℕ → List ℕ → List ℕ → List ℕ → Isolating
-isolating_of r owners jumpers writers readers =
-    record { answer = r.answer; services = r.services; owners = owners; jumpers = jumpers; writers = writers; readers = readers; owned = r.owned; jump = r.jump; store = r.store }
+-- of a call with these sets of the services
+abbrev pub isolating_of : List ℕ → Result Isolated Refusal → List ℕ → List ℕ → List ℕ → List ℕ → Isolating
+isolating_of services (Ok r) owners jumpers writers readers =
+    record { answer = answer.done; services = r.services; owners = owners; jumpers = jumpers; writers = writers; readers = readers; owned = r.owned; jump = r.jump; store = r.store }
+isolating_of services (Err refusal) owners jumpers writers readers = not_isolated (number refusal) services owners jumpers writers readers
 
 -- ---- the adds: the answer, the memory of sets that the target's is in, and 1 where that set changed
 
@@ -75,5 +73,6 @@ adding s sets =
     (record { answer = answer.done; sets = join_at sets (reg s.cpu.regs 1) s.cpu.prev; joined = joins_at sets (reg s.cpu.regs 1) s.cpu.prev })
     (record { answer = add_verdict s s.cpu.prev; sets = sets; joined = 0 })
 
-abbrev pub adding_of : Added → List ℕ → Adding
-adding_of r sets = record { answer = r.answer; sets = sets; joined = r.joined }
+abbrev pub adding_of : Result ℕ Refusal → List ℕ → Adding
+adding_of (Ok joined) sets = record { answer = answer.done; sets = sets; joined = joined }
+adding_of (Err refusal) sets = record { answer = number refusal; sets = sets; joined = 0 }

@@ -2,152 +2,113 @@
 #![tactic(auto)]
 
 ghost use Rattle.std.specs.Prelude.{◌≡◌, [], if◌then◌else◌};
-ghost use Rattle.common.specs.AddressSets.{set_at};
 ghost use Rattle.rules.specs.Laws.Tested.{isolate_verdict};
 ghost use Rattle.rules.specs.Step.{joined};
-ghost use Rattle.monitor.specs.Outcomes.{called, isolating, isolating_of, adding, adding_of};
+ghost use Rattle.answers.specs.Numbers.{answer_of};
+ghost use Rattle.address_sets.specs.SetLaws.{set_of};
+ghost use Rattle.monitor.specs.Outcomes.{called_by, lent_to, isolating, isolating_of, adding, adding_of};
 
-use memory::word_at;
+use address_sets::AddressSet;
+use answers::Refusal;
+use memory::Memories;
+use reach::Call;
 
 // Compartment numbers are below this.
 const NUMBERS: u32 = 64;
 
-// The answer, the sets I of the four services, and what the new compartment gained: addresses, which its caller lost, jump targets and
-// store targets.
+/// The sets I of the four services, and what the new compartment gained: addresses, which its caller lost, jump targets and store targets.
 #[derive(Clone, Copy)]
 pub struct Isolated {
-    pub answer: u32,
     pub services: [u64; 4],
     pub owned: u32,
     pub jump: u32,
     pub store: u32,
 }
 
-// The answer, and 1 where the caller joined a set that it was not in.
-#[derive(Clone, Copy)]
-pub struct Added {
-    pub answer: u32,
-    pub joined: u32,
-}
-
 // The checks of isolate in the sheet's order.
-pub fn isolate_verdict(
-    regs: &[u32; 16],
-    strict: bool,
-    n: u32,
-    caller: u32,
-    next: u32,
-    services: &[u64],
-    words: &[u32],
-    owners: &[u32],
-    jumpers: &[u64],
-    writers: &[u64],
-    readers: &[u64],
-) -> u32
-    ensures { result ≡ isolate_verdict (called strict regs.now n caller next services.now words.now owners.now jumpers.now writers.now readers.now) caller }
+#[tactic(auto, unfolding(rules::specs::Laws::Tested::isolate_verdict))]
+pub fn isolate_verdict(call: &Call, lent: &Memories) -> Result<(), Refusal>
+    ensures { answer_of result ≡ isolate_verdict (lent_to call.now lent.now) call.now.caller.number }
 {
-    if !reach::all_good(regs, strict, n, caller, words, owners, readers) {
-        return answers::BAD_SET;
+    if !call.all_good(lent) {
+        return Err(Refusal::BadSet);
     }
-    if word_at(words, regs[1]) == 0 {
-        return answers::EMPTY_SET;
+    if call.set(1, lent.words).is_empty() {
+        return Err(Refusal::EmptySet);
     }
-    let within = reach::all_within(
-        regs, strict, n, caller, services, words, owners, jumpers, writers, readers,
-    );
-    if !within {
-        return answers::NOT_WITHIN;
+    if !call.all_within(lent) {
+        return Err(Refusal::NotWithin);
     }
-    if !reach::returns(regs, strict, n, caller, words, owners) {
-        return answers::NO_RETURN;
+    if !call.returns(lent) {
+        return Err(Refusal::NoReturn);
     }
-    if next == NUMBERS {
-        return answers::NO_NUMBER;
+    if call.next == NUMBERS {
+        return Err(Refusal::NoNumber);
     }
-    answers::DONE
+    Ok(())
 }
 
-// A number joins the readers at the words of the set at q, in strict mode alone.
-fn join_readers(strict: bool, readers: &mut [u64], words: &[u32], n: u32, q: u32, number: u32)
-    ensures { readers.new ≡ (if strict then joined n (set_at words.now q) number readers.old else readers.old) }
+// A number joins the readers at the words of the set, in strict mode alone.
+fn join_readers(strict: bool, readers: &mut [u64], n: u32, set: &AddressSet, number: u32)
+    ensures { readers.new ≡ (if strict then joined n (set_of set.now) number readers.old else readers.old) }
 {
-    if !strict {
-        return;
+    if strict {
+        tags::join(readers, n, set, number);
     }
-    tags::join(readers, words, n, q, number);
 }
 
-// Makes a compartment of what the caller's registers point at, if every check passes.
+// Makes a compartment of what the caller's registers point at, if every check passes. Apart from the loop of a run, whose registers its
+// walks would take.
+#[inline(never)]
 pub fn isolate(
-    regs: &[u32; 16],
-    strict: bool,
-    n: u32,
-    caller: u32,
-    next: u32,
-    services: [u64; 4],
+    call: &Call,
     words: &[u32],
     owners: &mut [u32],
     jumpers: &mut [u64],
     writers: &mut [u64],
     readers: &mut [u64],
-) -> Isolated
-    ensures { isolating_of result owners.new jumpers.new writers.new readers.new ≡ isolating (called strict regs.now n caller next services words.now owners.old jumpers.old writers.old readers.old) }
+) -> Result<Isolated, Refusal>
+    ensures { isolating_of call.now.services result owners.new jumpers.new writers.new readers.new ≡ isolating (called_by call.now words.now owners.old jumpers.old writers.old readers.old) }
 {
-    let answer = isolate_verdict(
-        regs, strict, n, caller, next, &services, words, owners, jumpers, writers, readers,
-    );
-    if answer != answers::DONE {
-        return Isolated {
-            answer,
-            services,
-            owned: 0,
-            jump: 0,
-            store: 0,
-        };
-    }
-    let owned = tags::own(owners, words, n, regs[1], next);
-    let jump = tags::join(jumpers, words, n, regs[2], next);
-    let store = tags::join(writers, words, n, regs[3], next);
-    join_readers(strict, readers, words, n, regs[4], next);
-    let after = tags::join_services(services, words, regs[2], next);
-    let gates = tags::services_joined(strict, services, after);
-    Isolated {
-        answer: answers::DONE,
-        services: after,
+    let lent = Memories {
+        words,
+        owners,
+        jumpers,
+        writers,
+        readers,
+    };
+    isolate_verdict(call, &lent)?;
+    let n = call.caller.n;
+    let strict = call.caller.strict;
+    let child = call.next;
+    let jumps = call.set(2, words);
+    let owned = tags::own(owners, n, &call.set(1, words), child);
+    let jump = tags::join(jumpers, n, &jumps, child);
+    let store = tags::join(writers, n, &call.set(3, words), child);
+    join_readers(strict, readers, n, &call.set(4, words), child);
+    let services = tags::join_services(call.services, &jumps, child);
+    let gates = tags::services_joined(strict, call.services, services);
+    Ok(Isolated {
+        services,
         owned,
-        jump: std::num::wrapping_add_u32(jump, gates),
+        jump: jump.wrapping_add(gates),
         store,
-    }
+    })
 }
 
-// The caller joins the set at the address in r1, if it owns that address and the one to return to.
-pub fn add_target(
-    regs: &[u32; 16],
-    strict: bool,
-    n: u32,
-    caller: u32,
-    owners: &[u32],
-    sets: &mut [u64],
-) -> Added
-    ensures { adding_of result sets.new ≡ adding (called strict regs.now n caller 0 [] [] owners.now [] [] []) sets.old }
+// The caller joins the set at the address in r1, if it owns that address and the one to return to; the result is 1 where it was not in the
+// set, and else 0.
+#[tactic(auto, unfolding(crate::specs::Outcomes::adding, rules::specs::Laws::Tested::add_verdict, rules::specs::State::owns, rules::specs::State::has_owner, rules::specs::State::owner_at, rules::specs::State::in_memory))]
+pub fn add_target(call: &Call, owners: &[u32], sets: &mut [u64]) -> Result<u32, Refusal>
+    ensures { adding_of result sets.new ≡ adding (called_by call.now [] owners.now [] [] []) sets.old }
 {
-    let target = regs[1];
-    let back = regs[15];
-    if !reach::owns(strict, n, caller, owners, target) {
-        return Added {
-            answer: answers::NOT_OWNED,
-            joined: 0,
-        };
+    let target = call.regs[1];
+    let back = call.regs[15];
+    if !call.caller.owns(owners, target) {
+        return Err(Refusal::NotOwned);
     }
-    if !reach::owns(strict, n, caller, owners, back) {
-        return Added {
-            answer: answers::NO_RETURN,
-            joined: 0,
-        };
+    if !call.caller.owns(owners, back) {
+        return Err(Refusal::NoReturn);
     }
-    let joined = tags::join_at(sets, target, caller);
-    Added {
-        answer: answers::DONE,
-        joined,
-    }
+    Ok(tags::join_at(sets, target, call.caller.number))
 }

@@ -13,7 +13,7 @@ use Rattle.common.specs.Instructions.{plus, arithmetic}
 use Rattle.rules.specs.Compartments.{member}
 use Rattle.rights.specs.Rights.{free}
 use Rattle.rights.specs.Arrivals as at
-use Rattle.instructions.specs.declared.Standing.{Standing}
+use Rattle.instructions.specs.declared.Instruction.{Instruction}
 use Rattle.instructions.specs.Masks.{fits_in, fields_of, decode_fields, decode_stray, decode_high}
 use Rattle.instructions.specs.Views.{standing}
 use Rattle.moves.specs.declared.Move.{Move}
@@ -108,7 +108,7 @@ module _ (regs : List ℕ) (pc owner : ℕ) (strict : Bool) (n : ℕ) (words own
   refused k h = simp h
 
 -- i has the word's fields as they stand
-module _ (word : ℕ) (i : Standing) (ei : standing i ≡ fields_of word) where
+module _ (word : ℕ) (i : Instruction) (ei : standing i ≡ fields_of word) where
   is_op_lem : i.op ≡ op_of word
   is_op_lem = ap (λ (d : Decoded). d.op) ei
 

@@ -7,6 +7,7 @@ ghost use Rattle.common.specs.Words.{op_of, decode};
 ghost use Rattle.common.specs.Instructions.{plus};
 ghost use Rattle.moves.specs.Moves as is;
 
+use instructions::{ADD, BNZ, CONST, HALT, JAL, JUMP, LEQ, LOAD, MOV, NOP, STORE, fields, fits};
 use rights::arrival;
 
 // A register to write (16: none) and its value; a place to store to (4294967295: none) and its word; then pc, and how it comes there.
@@ -24,7 +25,7 @@ pub struct Move {
 // No register, and no place: N is never above 2,048.
 const NO_REGISTER: u32 = 16;
 
-const NOWHERE: u32 = 4294967295;
+const NOWHERE: u32 = u32::MAX;
 
 // Nothing is written; every move tells the instruction's owner.
 fn stop(answer: u32, owner: u32) -> Move
@@ -93,24 +94,22 @@ fn reg(regs: &[u32; 16], i: u32) -> u32
     requires { i < 16 }
     ensures { result ≡ slice_index regs.now i }
 {
-    let j = i as usize;
-    regs[j]
+    regs[i as usize]
 }
 
 // Reading is free to all, or in strict mode to the target's owner and its readers.
 fn may_read(owner: u32, x: u32, strict: bool, owners: &[u32], readers: &[u64]) -> bool
     ensures { result ≡ is.may_read owner x strict owners.now readers.now }
 {
-    if !strict {
-        return true;
-    }
-    rights::may_use(
-        owner,
-        memory::word_at(owners, x),
-        memory::set_at(readers, x),
-    )
+    !strict
+        || rights::may_use(
+            owner,
+            memory::word_at(owners, x),
+            memory::set_at(readers, x),
+        )
 }
 
+#[tactic(auto, unfolding(crate::specs::Moves::load_move))]
 fn load_move(
     owner: u32,
     on: u32,
@@ -133,6 +132,7 @@ fn load_move(
     puts(owner, on, rd, memory::word_at(words, x))
 }
 
+#[tactic(auto, unfolding(crate::specs::Moves::store_move))]
 fn store_move(owner: u32, on: u32, x: u32, y: u32, n: u32, owners: &[u32], writers: &[u64]) -> Move
     ensures { result ≡ is.store_move owner on x y n owners.now writers.now }
 {
@@ -149,22 +149,17 @@ fn store_move(owner: u32, on: u32, x: u32, y: u32, n: u32, owners: &[u32], write
     stores(owner, on, x, y)
 }
 
-// pc + 1.
-fn after(pc: u32) -> u32
-    ensures { result ≡ plus pc 1 }
-{
-    std::num::wrapping_add_u32(pc, 1)
-}
-
 // pc + 1 is made here, where it is wanted: then the compiler jumps, and what comes next need not wait for x.
+#[tactic(auto, using(arithmetic::specs::Targets::is_branch), unfolding(crate::specs::Moves::bnz_move))]
 fn bnz_move(owner: u32, pc: u32, low: u32, x: u32) -> Move
     requires { low < 65536 }
     ensures { result ≡ is.bnz_move owner (plus pc 1) pc low x }
 {
     if x == 0 {
-        return goes(owner, after(pc));
+        goes(owner, pc.wrapping_add(1))
+    } else {
+        goes(owner, arithmetic::branch_target(pc, low))
     }
-    goes(owner, arithmetic::branch_target(pc, low))
 }
 
 // 16.
@@ -191,28 +186,27 @@ fn other(
     requires { 3 ≤ op_of word → op_of word < 8 → ⊥ }
     ensures { result ≡ is.word_move (decode word) regs.now pc owner strict n words.now owners.now writers.now readers.now }
 {
-    let i = instructions::fields(word);
-    let op = i.op;
-    match op {
-        0 => if instructions::fits(word, 0) {
-            goes(owner, after(pc))
+    let i = fields(word);
+    match i.op {
+        NOP => if fits(word, NOP) {
+            goes(owner, pc.wrapping_add(1))
         } else {
             stray(owner)
         },
-        1 => if instructions::fits(word, 1) {
-            puts(owner, after(pc), i.a, i.low)
+        CONST => if fits(word, CONST) {
+            puts(owner, pc.wrapping_add(1), i.a, i.low)
         } else {
             stray(owner)
         },
-        2 => if instructions::fits(word, 2) {
-            puts(owner, after(pc), i.b, reg(regs, i.a))
+        MOV => if fits(word, MOV) {
+            puts(owner, pc.wrapping_add(1), i.b, reg(regs, i.a))
         } else {
             stray(owner)
         },
-        8 => if instructions::fits(word, 8) {
+        LOAD => if fits(word, LOAD) {
             load_move(
                 owner,
-                after(pc),
+                pc.wrapping_add(1),
                 i.b,
                 reg(regs, i.a),
                 strict,
@@ -224,10 +218,10 @@ fn other(
         } else {
             stray(owner)
         },
-        9 => if instructions::fits(word, 9) {
+        STORE => if fits(word, STORE) {
             store_move(
                 owner,
-                after(pc),
+                pc.wrapping_add(1),
                 reg(regs, i.a),
                 reg(regs, i.b),
                 n,
@@ -237,22 +231,22 @@ fn other(
         } else {
             stray(owner)
         },
-        10 => if instructions::fits(word, 10) {
+        JUMP => if fits(word, JUMP) {
             leaps(owner, reg(regs, i.a), NO_REGISTER, 0)
         } else {
             stray(owner)
         },
-        11 => if instructions::fits(word, 11) {
-            leaps(owner, reg(regs, i.a), 15, after(pc))
+        JAL => if fits(word, JAL) {
+            leaps(owner, reg(regs, i.a), 15, pc.wrapping_add(1))
         } else {
             stray(owner)
         },
-        12 => if instructions::fits(word, 12) {
+        BNZ => if fits(word, BNZ) {
             bnz_move(owner, pc, i.low, reg(regs, i.a))
         } else {
             stray(owner)
         },
-        13 => if instructions::fits(word, 13) {
+        HALT => if fits(word, HALT) {
             stop(answers::HALT, owner)
         } else {
             stray(owner)
@@ -276,15 +270,14 @@ fn execute(
 ) -> Move
     ensures { result ≡ is.word_move (decode word) regs.now pc owner strict n words.now owners.now writers.now readers.now }
 {
-    let i = instructions::fields(word);
-    let op = i.op;
-    match op {
-        3..=7 => if instructions::fits(word, op) {
+    let i = fields(word);
+    match i.op {
+        ADD..=LEQ => if fits(word, i.op) {
             puts(
                 owner,
-                after(pc),
+                pc.wrapping_add(1),
                 i.low % 16,
-                arithmetic::arith(op, reg(regs, i.a), reg(regs, i.b)),
+                arithmetic::arith(i.op, reg(regs, i.a), reg(regs, i.b)),
             )
         } else {
             stray(owner)
@@ -318,14 +311,14 @@ pub fn decide(
             return stop(answers::BAD_OWNER, owner);
         }
         let prev = arrival::prev_of(arrival);
-        if owner != prev {
-            if !rights::jumped_in(
+        if owner != prev
+            && !rights::jumped_in(
                 prev,
                 arrival::jumped_of(arrival),
                 memory::set_at(jumpers, pc),
-            ) {
-                return stop(answers::NO_ARRIVAL, owner);
-            }
+            )
+        {
+            return stop(answers::NO_ARRIVAL, owner);
         }
     }
     execute(

@@ -2,38 +2,39 @@
 // written. What the system reads and writes no contract can say; lines and totals come from calls whose promises are whole.
 #![tactic(auto)]
 
+ghost use Rattle.std.specs.Prelude.{◌≤◌};
 ghost use Rattle.std.specs.Counts.{IsPrefixLen};
 
+use answers::Refusal;
+use printer::Ending;
 use sheet::Totals;
 use std::fs::File;
+use streams::Cut;
 
 // After so many names the list ends, and no name is longer than so many bytes.
 const NAMES: u32 = 10000;
 
 const NAME: usize = 255;
 
-const FEED: u8 = 10;
-
 // How many times the list is read at most, so that the loop ends.
 const READS: u64 = 4294967296;
 
-// How far the list has come: the bytes of the name that is not ended, the names that are, whether a line could not be written, the totals.
-#[derive(Clone, Copy)]
+// How far the list has come: the bytes of the name that is not ended, the names that are, and the totals.
+#[derive(Drop)]
 struct Night {
+    strict: bool,
+    name: [u8; 256],
     used: usize,
     names: u32,
-    failed: bool,
     totals: Totals,
+    ghost kept: { used ≤ 256 },
 }
 
 // The image in a file, or nothing where it cannot be read to its end or is longer than any image: nothing is refused as 20.
 fn take(rt: HostRuntime, name: &[u8], bytes: &mut [u8]) -> usize
     ensures { IsPrefixLen result bytes.new }
 {
-    if name.len() == 0 {
-        return 0;
-    }
-    if NAME < name.len() {
+    if name.is_empty() || NAME < name.len() {
         return 0;
     }
     let Ok(path) = std::str::from_utf8(name) else {
@@ -42,139 +43,108 @@ fn take(rt: HostRuntime, name: &[u8], bytes: &mut [u8]) -> usize
     let Ok(mut file) = File::open(&rt, path) else {
         return 0;
     };
-    let got = streams::read_all(&mut file, bytes);
-    if got.failed {
-        return 0;
-    }
-    got.count
+    streams::read_all(&mut file, bytes).unwrap_or(0)
 }
 
-// Writes a text; answers whether that failed.
-fn write(rt: HostRuntime, text: &[u8], length: usize) -> bool {
-    let n = streams::within(length, text);
-    let moved = streams::write_all(&mut rt.stdout(), &text[..n]);
-    moved.failed
+// Writes a line that was put into a buffer.
+fn write(rt: HostRuntime, text: &[u8], told: Result<usize, Refusal>) -> Result<(), Cut> {
+    let n = streams::within(told.unwrap_or(0), text);
+    streams::write_all(&mut rt.stdout(), &text[..n])
 }
 
-// The line of the file with this name. The loader answers of a longer file what it answers of its first 8,273 bytes.
-fn run_name(rt: HostRuntime, strict: bool, name: &[u8], night: Night) -> Night {
-    let mut bytes = [0u8; 8273];
-    let mut out = [0u8; sheet::LONGEST];
-    let n = take(rt, name, &mut bytes);
-    let l = sheet::line(strict, &bytes[..n], &mut out);
-    let told = l.told;
-    let note = l.note;
-    let totals = night.totals;
-    Night {
-        used: 0,
-        names: std::num::wrapping_add_u32(night.names, 1),
-        failed: write(rt, &out, told.length),
-        totals: sheet::add(totals, note),
-    }
-}
-
-// Whether the list goes on.
-fn goes_on(night: Night) -> bool {
-    if night.failed {
-        return false;
-    }
-    night.names < NAMES
-}
-
-// One byte more of the list: one of a name, of which no more than 256 are kept, or its end.
-fn read_byte(rt: HostRuntime, strict: bool, byte: u8, name: &mut [u8], night: Night) -> Night {
-    if !goes_on(night) {
-        return night;
-    }
-    let used = streams::within(night.used, name);
-    if byte == FEED {
-        return run_name(rt, strict, &name[..used], night);
-    }
-    if used == name.len() {
-        return night;
-    }
-    name[used] = byte;
-    let totals = night.totals;
-    Night {
-        used: used + 1,
-        names: night.names,
-        failed: false,
-        totals,
-    }
-}
-
-// The bytes of the list that were read.
-fn read_bytes(rt: HostRuntime, strict: bool, bytes: &[u8], name: &mut [u8], night: Night) -> Night {
-    let mut now = night;
-    let mut i = 0;
-    while i < bytes.len() {
-        now = read_byte(rt, strict, bytes[i], name, now);
-        i += 1;
-    }
-    now
-}
-
-// The totals' line; answers how the night ended.
-fn write_totals(rt: HostRuntime, strict: bool, totals: Totals) -> u32 {
-    let mut out = [0u8; sheet::LONGEST_TOTALS];
-    let told = sheet::total(strict, totals, &mut out);
-    if write(rt, &out, told.length) {
-        card::say(rt, b"the sheet could not be written\n");
-        return printer::NOT_RUN;
-    }
-    sheet::ended(totals)
-}
-
-// The list has ended: its last name may lack its line feed.
-fn finish(rt: HostRuntime, strict: bool, name: &[u8], night: Night) -> u32 {
-    let mut last = night;
-    if 0 < night.used {
-        if goes_on(night) {
-            let used = streams::within(night.used, name);
-            last = run_name(rt, strict, &name[..used], night);
+impl Night {
+    fn new(strict: bool) -> Self {
+        Night {
+            strict,
+            name: [0; 256],
+            used: 0,
+            names: 0,
+            totals: sheet::none(),
         }
     }
-    if last.failed {
-        card::say(rt, b"the sheet could not be written\n");
-        return printer::NOT_RUN;
-    }
-    let totals = last.totals;
-    write_totals(rt, strict, totals)
-}
 
-// Reads the list to its end, and writes the sheet; answers how it ended.
-fn make(rt: HostRuntime, strict: bool) -> u32 {
-    let mut bytes = [0u8; 4096];
-    let mut name = [0u8; 256];
-    let totals = sheet::none();
-    let mut night = Night {
-        used: 0,
-        names: 0,
-        failed: false,
-        totals,
-    };
-    let mut reads: u64 = 0;
-    while reads < READS {
-        if !goes_on(night) {
-            return finish(rt, strict, &name, night);
-        }
-        let got = streams::read_all(&mut rt.stdin(), &mut bytes);
-        if got.failed {
-            card::say(rt, b"the list could not be read\n");
-            return printer::NOT_RUN;
-        }
-        let n = streams::within(got.count, &bytes);
-        if n == 0 {
-            return finish(rt, strict, &name, night);
-        }
-        night = read_bytes(rt, strict, &bytes[..n], &mut name, night);
-        reads += 1;
+    // Whether the list goes on.
+    fn goes_on(&self) -> bool {
+        self.names < NAMES
     }
-    card::say(rt, b"the list could not be read\n");
-    printer::NOT_RUN
+
+    // Writes the line of the file with the name that has ended. The loader answers of a longer file what it answers of its first 8,273
+    // bytes.
+    fn run_name(&mut self, rt: HostRuntime) -> Result<(), Cut> {
+        let mut bytes = [0; 8273];
+        let mut out = [0; sheet::LONGEST];
+        let n = take(rt, &self.name[..self.used], &mut bytes);
+        let line = sheet::line(self.strict, &bytes[..n], &mut out);
+        self.used = 0;
+        self.names = self.names.wrapping_add(1);
+        self.totals = sheet::add(self.totals, line.note);
+        write(rt, &out, line.told)
+    }
+
+    // Takes a byte more of the list: one of a name, of which no more than 256 are kept, or its end.
+    fn take_byte(&mut self, rt: HostRuntime, byte: u8) -> Result<(), Cut> {
+        if !self.goes_on() {
+            return Ok(());
+        }
+        if byte == b'\n' {
+            return self.run_name(rt);
+        }
+        if self.used < 256 {
+            self.name[self.used] = byte;
+            self.used += 1;
+        }
+        Ok(())
+    }
+
+    // Takes the bytes of the list that were read.
+    fn take_bytes(&mut self, rt: HostRuntime, bytes: &[u8]) -> Result<(), Cut> {
+        for byte in bytes {
+            self.take_byte(rt, *byte)?;
+        }
+        Ok(())
+    }
+
+    // The list has ended: its last name may lack its line feed. Then come the totals.
+    fn finish(&mut self, rt: HostRuntime) -> Result<Ending, Cut> {
+        if 0 < self.used && self.goes_on() {
+            self.run_name(rt)?;
+        }
+        let mut out = [0; sheet::LONGEST_TOTALS];
+        let told = sheet::total(self.strict, self.totals, &mut out);
+        write(rt, &out, told)?;
+        Ok(sheet::ended(self.totals))
+    }
+
+    // Reads the list to its end, and writes the sheet; answers how it ended, or nothing where the list could not be read.
+    fn make(&mut self, rt: HostRuntime) -> Result<Option<Ending>, Cut> {
+        let mut bytes = [0; 4096];
+        for _ in 0..READS {
+            if !self.goes_on() {
+                return self.finish(rt).map(Some);
+            }
+            match streams::read_all(&mut rt.stdin(), &mut bytes) {
+                Ok(0) => return self.finish(rt).map(Some),
+                Ok(n) => self.take_bytes(rt, &bytes[..n])?,
+                Err(_) => return Ok(None),
+            }
+        }
+        Ok(None)
+    }
 }
 
 // Makes the sheet of the list on standard input.
 pub fn make_sheet(rt: HostRuntime, strict: bool) {
-    card::tell(rt, make(rt, strict));
+    let mut night = Night::new(strict);
+    let ending = match night.make(rt) {
+        Ok(Some(ending)) => ending,
+        Ok(None) => {
+            card::say(rt, b"the list could not be read\n");
+            Ending::NotRun
+        }
+        Err(_) => {
+            card::say(rt, b"the sheet could not be written\n");
+            Ending::NotRun
+        }
+    };
+    card::tell(rt, ending.into());
 }

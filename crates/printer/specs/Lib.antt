@@ -1,4 +1,5 @@
 -- ---- what the contracts see, and the laws that the proofs cite
+pub mod Endings
 pub mod Views
 pub mod Front
 pub mod Made

@@ -6,6 +6,7 @@ use Rattle.numerals.specs.Writing.{put}
 use Rattle.text.specs.Puts.{put_of, put_behind}
 use Rattle.printed.specs.Text.{field, Row, row_line, row_lines}
 use Rattle.rules.specs.Rows as rows
+use Rattle.rows.specs.declared.Row as lent
 use Rattle.rows.specs.Views as table
 use Rattle.printer.specs.Views.{row, lines_of}
 
@@ -46,17 +47,17 @@ rows_more s c =
     ∙ ap (λ (k : ℕ). row_lines (lines_of s 0 c) ++ row_line (row_at s k)) (zero-add c)
 
 -- the row is the code's
-module _ (s : List rows.Row) (c : ℕ) (r : List ℕ) (e : table.row_of r ≡ get_or s c rows.no_row) where
-  row_is : row c (get_or r 0 0) (get_or r 1 0) (get_or r 2 0) ≡ row_at s c
+module _ (s : List rows.Row) (c : ℕ) (r : lent.Row) (e : table.row_of r ≡ get_or s c rows.no_row) where
+  row_is : row c r.owned r.jump r.store ≡ row_at s c
   row_is = ap (λ (x : rows.Row). row c x.owned x.jump x.store) e
 
   pub row_put : (out : List ℕ) (at p : ℕ) (mid : List ℕ) (n : ℕ) (new : List ℕ) → put_of p mid ≡ put (row_lines (lines_of s 0 c)) at out
-      → put_of n new ≡ put (row_line (row c (get_or r 0 0) (get_or r 1 0) (get_or r 2 0))) p mid → put_of n new ≡ put (row_lines (lines_of s 0 (c + 1))) at out
+      → put_of n new ≡ put (row_line (row c r.owned r.jump r.store)) p mid → put_of n new ≡ put (row_lines (lines_of s 0 (c + 1))) at out
   row_put out at p mid n new a b =
       put_behind (row_lines (lines_of s 0 c)) (row_line (row_at s c)) out at p mid n new a (b ∙ ap (λ (x : Row). put (row_line x) p mid) row_is)
       ∙ ap (λ (t : List ℕ). put t at out) (sym (rows_more s c))
 
-  pub row_length : length (row_lines (lines_of s 0 c)) ≤ 44 * c → length (row_line (row c (get_or r 0 0) (get_or r 1 0) (get_or r 2 0))) ≤ 44
+  pub row_length : length (row_lines (lines_of s 0 c)) ≤ 44 * c → length (row_line (row c r.owned r.jump r.store)) ≤ 44
       → length (row_lines (lines_of s 0 (c + 1))) ≤ 44 * (c + 1)
   row_length h k =
       let e = ap length (rows_more s c) ∙ length-append (row_lines (lines_of s 0 c)) (row_line (row_at s c)) in

@@ -1,5 +1,5 @@
 -- The whole text, as the code comes to it.
-use Rattle.std.specs.Prelude.{◌≡◌, refl, Bool, cond, eqb, ℕ, zero, suc, ◌+◌, ◌*◌, ◌<◌, ◌≤◌, take, replicate}
+use Rattle.std.specs.Prelude.{Err, ◌≡◌, refl, Bool, cond, eqb, ℕ, zero, suc, ◌+◌, ◌*◌, ◌<◌, ◌≤◌, take, replicate}
 use Rattle.std.proofs.Math.Path.{sym, ap}
 use Rattle.std.proofs.Common.{◌∙◌, subst, length-append}
 use mathlib.Core.List.{List, [], ◌∷◌, ◌++◌}
@@ -21,6 +21,9 @@ use Rattle.rules.proofs.BothMachines.LoadedRows.{rows_right}
 use Rattle.rows.specs.Views.{table}
 use Rattle.machine.specs.declared.Ran.{Ran}
 use Rattle.machine.specs.Views.{state_of, ran_of}
+use Rattle.answers.specs.declared.Refusal.{Refusal}
+use Rattle.answers.specs.Numbers.{number, answer_of}
+use Rattle.answers.specs.Results.{number-not-0}
 use Rattle.loader.specs.declared.Loaded.{Loaded}
 use Rattle.report.specs.Wholes.{widest_whole}
 use Rattle.printed.specs.Text.{Line, first_line, Row, row_lines, refused_line, Outcome, refused, text}
@@ -64,36 +67,39 @@ lines_right s lent r c (suc k) h =
 
 -- the table before an image is loaded
 abbrev blank_rows : List rows.Row
-blank_rows = table (replicate 64 (replicate 3 0))
+blank_rows = table (replicate 64 (record { owned = 0; jump = 0; store = 0 }))
 
 module _ (strict : Bool) (input : List ℕ) (l : Loaded) (words owners jumpers writers readers : List ℕ) (lent : List rows.Row)
-    (loads : record { answer = l.answer; state = state_of l.cpu words owners jumpers writers readers; rows = lent } ≡ rows.lent_load strict input memories blank_rows) where
+    (loads : record { answer = answer_of l.answer; state = state_of l.cpu words owners jumpers writers readers; rows = lent } ≡ rows.lent_load strict input memories blank_rows) where
   -- the load without a table
   abbrev plain : images.Loaded
   plain = images.load strict input memories
 
-  is_load : ◌≡◌ {A = rows.LentStepped} (record { answer = l.answer; state = state_of l.cpu words owners jumpers writers readers; rows = lent })
+  is_load : ◌≡◌ {A = rows.LentStepped} (record { answer = answer_of l.answer; state = state_of l.cpu words owners jumpers writers readers; rows = lent })
       (record { answer = plain.answer; state = plain.state; rows = cond (eqb plain.answer 0) (rows.fresh_rows strict (images.size_in input)) blank_rows })
   is_load = loads ∙ lent_load_lem blank_rows refl strict input memories
 
-  same_answer : l.answer ≡ plain.answer
+  same_answer : answer_of l.answer ≡ plain.answer
   same_answer = ap (λ (x : rows.LentStepped). x.answer) is_load
 
-  module _ (ne : l.answer ≡ 0 → ⊥) where
-    refused_is : refused l.answer ≡ outcome strict input
-    unfolding outcome load_outcome
-    refused_is = ap refused same_answer ∙ simp (ne_eqb plain.answer 0 (λ z. ne (same_answer ∙ z)))
+  module _ (refusal : Refusal) (is : l.answer ≡ Err refusal) (k : ℕ) (ek : k ≡ number refusal) where
+    same_number : k ≡ plain.answer
+    same_number = ek ∙ sym (ap answer_of is) ∙ same_answer
 
-    pub refused_made : (out : List ℕ) (n : ℕ) (new : List ℕ) → put_of n new ≡ put (refused_line l.answer) 0 out
+    refused_is : refused k ≡ outcome strict input
+    unfolding outcome load_outcome
+    refused_is = ap refused same_number ∙ simp (ne_eqb plain.answer 0 (λ z. number-not-0 refusal (sym ek ∙ same_number ∙ z)))
+
+    pub refused_made : (out : List ℕ) (n : ℕ) (new : List ℕ) → put_of n new ≡ put (refused_line k) 0 out
         → record { status = 2; made = put_of n new } ≡ meant_of (outcome strict input) out
     unfolding text status
     refused_made out n new e = ap (λ (p : Put). record { status = 2; made = p }) e ∙ ap (λ (o : Outcome). meant_of o out) refused_is
 
-    pub refused_short : length (refused_line l.answer) ≤ 19 → length (text (outcome strict input)) ≤ longest
+    pub refused_short : length (refused_line k) ≤ 19 → length (text (outcome strict input)) ≤ longest
     unfolding text
     refused_short h = let e = ap (λ (o : Outcome). length (text o)) refused_is in omega arith
 
-  module _ (z : l.answer ≡ 0) (r : Ran) (words' owners' jumpers' writers' readers' : List ℕ) (lent' : List rows.Row)
+  module _ (z : answer_of l.answer ≡ 0) (r : Ran) (words' owners' jumpers' writers' readers' : List ℕ) (lent' : List rows.Row)
       (runs : record { answer = r.answer; state = state_of r.cpu words' owners' jumpers' writers' readers'; rows = lent'; count = r.count } ≡ rows.lent_run budget (state_of l.cpu words owners jumpers writers readers) lent) where
     ok : plain.answer ≡ 0
     ok = sym same_answer ∙ z

@@ -1,5 +1,7 @@
 -- The code's results, seen as the definitions' numbers.
 use Rattle.std.specs.Prelude.{Bool, List, [], ◌∷◌, ℕ, zero, suc, get_or}
+use Rattle.std.specs.Result.{result_unwrap_or}
+use Rattle.answers.specs.Numbers.{answer_of}
 use Rattle.rules.specs.Counts.{widest}
 use Rattle.rules.specs.Rows as rows
 use Rattle.machine.specs.declared.Ran.{Ran}
@@ -10,6 +12,7 @@ use Rattle.printed.specs.Text as meant
 use Rattle.printed.specs.Outcome as outcome
 use Rattle.printer.specs.declared.Printed.{Printed}
 use Rattle.printer.specs.declared.Made.{Made}
+use Rattle.printer.specs.Endings.{status_of}
 
 -- the numbers of a first line, and of a compartment's
 abbrev pub line : ℕ → ℕ → ℕ → ℕ → Bool → ℕ → ℕ → meant.Line
@@ -37,10 +40,10 @@ pub record Meant : Type 0 where
   pub made : Put
 
 abbrev pub made_of : Made → List ℕ → Meant
-made_of r out = record { status = r.status; made = put_of r.length out }
+made_of r out = record { status = status_of r.ending; made = put_of r.length out }
 
 abbrev pub meant_of : meant.Outcome → List ℕ → Meant
 meant_of o out = record { status = outcome.status o; made = put (meant.text o) 0 out }
 
 abbrev pub printed_of : Printed → List ℕ → outcome.Printed
-printed_of r out = record { answer = r.answer; length = r.length; status = r.status; out = out }
+printed_of r out = record { answer = answer_of r.length; length = result_unwrap_or r.length 0; status = status_of r.ending; out = out }

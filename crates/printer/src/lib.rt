@@ -9,9 +9,11 @@ ghost use Rattle.text.specs.Puts.{put_of};
 ghost use Rattle.rows.specs.Views.{table};
 ghost use Rattle.printed.specs.Text.{text};
 ghost use Rattle.printed.specs.Outcome.{outcome, ended_by, print};
+ghost use Rattle.printer.specs.Endings.{status_of};
 ghost use Rattle.printer.specs.Views.{ran_by, made_of, meant_of, printed_of};
 
 use crate::lines::{put_first, put_refused, put_rows};
+use answers::Refusal;
 use machine::Ran;
 use rows::{ROWS, Row};
 
@@ -23,42 +25,47 @@ pub const PLACES: usize = 2048;
 // No text is longer: 108 bytes of a first line, and 44 of each of 64 compartments.
 pub const LONGEST: usize = 2924;
 
-// How it ended; and that it could not be run, which no call of this crate answers.
-pub const HALTED: u32 = 0;
+/// How an image ended; and that it could not be run, which no call of this crate answers.
+#[derive(Clone, Copy, Debug, PartialEq, Eq)]
+pub enum Ending {
+    Halted = 0,
+    Stopped = 1,
+    Refused = 2,
+    BudgetUsed = 3,
+    NotRun = 4,
+}
 
-pub const STOPPED: u32 = 1;
+impl From<Ending> for u32 {
+    ghost from_gives = { λ ending n. n ≡ status_of ending };
 
-pub const REFUSED: u32 = 2;
+    fn from(ending: Ending) -> u32 {
+        ending as u32
+    }
+}
 
-pub const BUDGET_USED: u32 = 3;
-
-pub const NOT_RUN: u32 = 4;
-
-// Answer 0 and the length of the text, or 31 and 0; and how the image ended.
+// The length of the text, or that the buffer has no room for it; and how the image ended, whatever the buffer.
 #[derive(Clone, Copy)]
 pub struct Printed {
-    pub answer: u32,
-    pub length: usize,
-    pub status: u32,
+    pub length: Result<usize, Refusal>,
+    pub ending: Ending,
 }
 
-// How the image ended, and the length of its text.
+// The length of an image's text, and how the image ended.
 #[derive(Clone, Copy)]
 struct Made {
-    status: u32,
     length: usize,
+    ending: Ending,
 }
 
-fn ended_by(answer: u32) -> u32
-    ensures { result ≡ ended_by answer }
+#[tactic(auto, unfolding(printed::specs::Outcome::ended_by))]
+fn ended_by(answer: u32) -> Ending
+    ensures { status_of result ≡ ended_by answer }
 {
-    if answer == answers::DONE {
-        return BUDGET_USED;
+    match answer {
+        answers::DONE => Ending::BudgetUsed,
+        answers::HALT => Ending::Halted,
+        _ => Ending::Stopped,
     }
-    if answer == answers::HALT {
-        return HALTED;
-    }
-    STOPPED
 }
 
 // The text of a run.
@@ -66,12 +73,9 @@ fn put_ran(out: &mut [u8], r: Ran, owners: &[u32], writers: &[u64], rows: &[Row]
     ensures written { put_of result out.new ≡ put (text (ran_by r owners.now writers.now (table rows.now))) 0 out.old }
     ensures bounded { length (text (ran_by r owners.now writers.now (table rows.now))) ≤ 108 + 44 * r.cpu.next }
 {
-    let cpu = r.cpu;
-    let widest = report::widest(cpu, owners, writers);
-    let p = put_first(
-        out, r.answer, r.count, cpu.pc, cpu.prev, cpu.jumped, cpu.next, widest,
-    );
-    put_rows(out, p, cpu.next, rows)
+    let widest = report::widest(r.cpu, owners, writers);
+    let end = put_first(out, r, widest);
+    put_rows(out, end, r.cpu.next, rows)
 }
 
 // Loads an image, runs it, and puts the text of what came of it.
@@ -84,7 +88,7 @@ fn make(strict: bool, bytes: &[u8], out: &mut [u8]) -> Made
     let mut jumpers = [0u64; PLACES];
     let mut writers = [0u64; PLACES];
     let mut readers = [0u64; PLACES];
-    let mut rows = [[0u32; 3]; ROWS];
+    let mut rows = [Row::NONE; ROWS];
     let l = loader::load_rows(
         strict,
         bytes,
@@ -95,12 +99,10 @@ fn make(strict: bool, bytes: &[u8], out: &mut [u8]) -> Made
         &mut readers,
         &mut rows,
     );
-    let answer = l.answer;
-    if answer != answers::DONE {
-        let length = put_refused(out, answer);
+    if let Err(refusal) = l.answer {
         return Made {
-            status: REFUSED,
-            length,
+            length: put_refused(out, u32::from(refusal)),
+            ending: Ending::Refused,
         };
     }
     let cpu = l.cpu;
@@ -113,9 +115,10 @@ fn make(strict: bool, bytes: &[u8], out: &mut [u8]) -> Made
         BUDGET,
         &mut rows,
     );
-    let status = ended_by(r.answer);
-    let length = put_ran(out, r, &owners, &writers, &rows);
-    Made { status, length }
+    Made {
+        length: put_ran(out, r, &owners, &writers, &rows),
+        ending: ended_by(r.answer),
+    }
 }
 
 // Runs an image in a mode, and writes the text of what came of it to the front of the buffer.
@@ -123,20 +126,16 @@ pub fn print(strict: bool, bytes: &[u8], out: &mut [u8]) -> Printed
     ensures { printed_of result out.new ≡ print strict bytes.now out.old }
 {
     let mut made = [0u8; LONGEST];
-    let m = make(strict, bytes, &mut made);
-    let status = m.status;
-    let length = m.length;
+    let Made { length, ending } = make(strict, bytes, &mut made);
     if out.len() < length {
         return Printed {
-            answer: answers::SHORT_BUFFER,
-            length: 0,
-            status,
+            length: Err(Refusal::ShortBuffer),
+            ending,
         };
     }
     text::put_text(out, 0, &made[..length]);
     Printed {
-        answer: answers::DONE,
-        length,
-        status,
+        length: Ok(length),
+        ending,
     }
 }

@@ -2,6 +2,10 @@
 use Rattle.std.specs.Prelude.{Bool, true, ◌||◌, List, [], ℕ}
 use Rattle.common.specs.Services as service
 use Rattle.rules.specs.State.{State, owns, may_jump}
+use Rattle.memory.specs.declared.Memories.{Memories}
+use Rattle.reach.specs.declared.Tags.{Tags}
+use Rattle.reach.specs.declared.Caller.{Caller}
+use Rattle.reach.specs.declared.Call.{Call}
 
 -- the caller's numbers and the lent memories, at a service
 abbrev pub called : Bool → List ℕ → ℕ → ℕ → ℕ → List ℕ → List ℕ → List ℕ → List ℕ → List ℕ → List ℕ → State
@@ -15,9 +19,20 @@ called strict regs n caller next services words owners jumpers writers readers =
       readers = readers;
     }
 
+-- the state of a call and of what it is lent: by lists, and for reading
+abbrev pub called_by : Call → List ℕ → List ℕ → List ℕ → List ℕ → List ℕ → State
+called_by k = called k.caller.strict k.regs.now k.caller.n k.caller.number k.next k.services
+
+abbrev pub lent_to : Call → Memories → State
+lent_to k lent = called_by k lent.words.now lent.owners.now lent.jumpers.now lent.writers.now lent.readers.now
+
 -- what the owners, and the sets at words and services, say
 abbrev pub asked : Bool → ℕ → List ℕ → List ℕ → List ℕ → State
 asked strict n owners sets services = called strict [] n 0 0 services [] owners sets [] []
+
+-- what is asked of a caller's tags
+abbrev pub asked_by : Caller → Tags → State
+asked_by c t = asked c.strict c.n t.owners.now t.sets.now t.services.now
 
 -- what the owners and the readers say
 abbrev pub reading : Bool → ℕ → List ℕ → List ℕ → State

@@ -10,7 +10,6 @@ use Rattle.common.specs.Instructions.{reg}
 use Rattle.common.specs.AddressSets.{inside, good_set, all_from}
 use Rattle.common.proofs.Laws.Meaning.{good_free}
 use Rattle.rules.specs.State.{State, in_memory, has_owner, owner_at, readers_at, owns, may_read, reads}
-use Rattle.rules.specs.Checks.{good_sets}
 use Rattle.rules.proofs.Theorems.Sheet.{free}
 use Rattle.address_sets.specs.SetLaws.{in_order}
 use Rattle.reach.specs.Called.{reading, reaches}
@@ -44,14 +43,3 @@ module _ (words : List ℕ) (n q : ℕ) (h : in_order words n q ≡ true) (s : S
       f ∙ ap (all_from (reaches (seen s c s.readers []) c) q) l
       ∙ ap (λ (t : ℕ → Bool). all_from t q (suc (2 * get_or words q 0))) (fun_ext (λ x. reaches_read s c e x ∙ sym (fenced e x)))
       ∙ sym (ap (λ (b : Bool). b && all_from (reads s c) q (suc (2 * get_or words q 0))) h)
-
--- ---- the sets, of a state
-
-pub sets_good : (s : State) (c : ℕ) (r : Bool)
-    → r ≡ (good_set s.words s.cpu.n (reads (reading s.cpu.strict s.cpu.n s.owners s.readers) c) (reg s.cpu.regs 1)
-    && good_set s.words s.cpu.n (reads (reading s.cpu.strict s.cpu.n s.owners s.readers) c) (reg s.cpu.regs 2)
-    && good_set s.words s.cpu.n (reads (reading s.cpu.strict s.cpu.n s.owners s.readers) c) (reg s.cpu.regs 3)
-    && (not s.cpu.strict || good_set s.words s.cpu.n (reads (reading s.cpu.strict s.cpu.n s.owners s.readers) c) (reg s.cpu.regs 4)))
-    → r ≡ good_sets s c
-unfolding good_sets reads owns has_owner owner_at may_read readers_at in_memory
-sets_good s c r e = e

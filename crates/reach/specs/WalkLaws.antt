@@ -8,7 +8,7 @@ use native.Mathlib.Omega.{arith}
 use Rattle.common.specs.AddressSets.{Pair, all_from, within}
 use Rattle.address_sets.specs.SetLaws.{Every}
 
-abbrev passes : (ℕ → Bool) → Pair → Bool
+abbrev pub passes : (ℕ → Bool) → Pair → Bool
 passes test p = all_from test p.first (p.past - p.first)
 
 pub every_within : (test : ℕ → Bool) → Every (λ ps. within ps test) (passes test)

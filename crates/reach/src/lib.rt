@@ -2,135 +2,212 @@
 // address to return to (12).
 #![tactic(auto)]
 
-pub mod walk;
+ghost use Rattle.std.specs.Prelude.{◌≡◌, [], ◌-◌};
+ghost use Rattle.common.specs.Instructions.{reg};
+ghost use Rattle.common.specs.AddressSets.{set_at, all_from, good_set, within};
+ghost use Rattle.rules.specs.State.{owns, jumpers_at, reads};
+ghost use Rattle.rules.specs.Checks.{good_in, good_sets, sets_within, returns};
+ghost use Rattle.address_sets.specs.SetLaws.{set_of};
+ghost use Rattle.reach.specs.Called.{asked, asked_by, reading, reaches, lent_to};
 
-ghost use Rattle.std.specs.Prelude.{◌≡◌, []};
-ghost use Rattle.common.specs.AddressSets.{good_set};
-ghost use Rattle.rules.specs.State.{owns, reads};
-ghost use Rattle.rules.specs.Checks.{good_sets, sets_within, returns};
-ghost use Rattle.reach.specs.Called.{called, asked, reading};
-
-use crate::walk::{reaches_all, within};
-use address_sets::{Pair, has, in_order};
-use memory::word_at;
+use address_sets::{AddressSet, Pair, clipped};
+use compartments::Set;
+use memory::{Memories, set_at, word_at};
 
 // The address before the services, which are owned by the compartments from 1 on.
 const BEFORE: u32 = modes::ISOLATE - 1;
 
-// Whether the caller owns x, a memory word or a service.
-pub fn owns(strict: bool, n: u32, caller: u32, owners: &[u32], x: u32) -> bool
-    ensures { result ≡ owns (asked strict n owners.now [] []) caller x }
-{
-    if x < n {
-        return word_at(owners, x) == caller;
-    }
-    if !modes::is_service(strict, x) {
-        return false;
-    }
-    x - BEFORE == caller
+/// The tags that decide a reach: the owners, and the sets of compartment numbers at words and at services.
+#[derive(Clone, Copy)]
+pub struct Tags<'a> {
+    pub owners: &'a [u32],
+    pub sets: &'a [u64],
+    pub services: &'a [u64],
 }
 
-// Whether the set at q is inside memory and in order, and in strict mode the caller may read its words, count and pairs.
-pub fn good(
-    words: &[u32],
-    q: u32,
-    strict: bool,
-    n: u32,
-    caller: u32,
-    owners: &[u32],
-    readers: &[u64],
-) -> bool
-    ensures { result ≡ good_set words.now n (reads (reading strict n owners.now readers.now) caller) q }
-{
-    if !in_order(words, n, q) {
-        return false;
-    }
-    if !strict {
-        return true;
-    }
-    let past = q + 1 + 2 * word_at(words, q);
-    let none = &readers[..0];
-    let pair = Pair { first: q, past };
-    reaches_all(pair, strict, n, caller, owners, readers, none)
+/// A compartment that asks, and the mode and the N by which it is answered.
+#[derive(Clone, Copy)]
+pub struct Caller {
+    pub strict: bool,
+    pub n: u32,
+    pub number: u32,
 }
 
-// Whether the sets that the caller points at are good: three, and in strict mode R' too.
-pub fn all_good(
-    regs: &[u32; 16],
-    strict: bool,
-    n: u32,
-    caller: u32,
-    words: &[u32],
-    owners: &[u32],
-    readers: &[u64],
-) -> bool
-    ensures { result ≡ good_sets (called strict regs.now n caller 0 [] words.now owners.now [] [] readers.now) caller }
-{
-    if !good(words, regs[1], strict, n, caller, owners, readers) {
-        return false;
+impl Caller {
+    // Whether the caller owns x, a memory word or a service.
+    #[tactic(auto, using(common::proofs::Laws::ServiceLaws::service_range), unfolding(common::specs::Services::service_at, rules::specs::State::owns, rules::specs::State::has_owner, rules::specs::State::owner_at, rules::specs::State::in_memory))]
+    pub fn owns(self, owners: &[u32], x: u32) -> bool
+        ensures { result ≡ owns (asked self.strict self.n owners.now [] []) self.number x }
+    {
+        if x < self.n {
+            word_at(owners, x) == self.number
+        } else {
+            modes::is_service(self.strict, x) && x - BEFORE == self.number
+        }
     }
-    if !good(words, regs[2], strict, n, caller, owners, readers) {
-        return false;
+
+    // The set of compartment numbers at x: a word's, a service's, or the empty one.
+    #[tactic(auto, using(common::proofs::Laws::ServiceLaws::service_range), unfolding(rules::specs::State::jumpers_at, rules::specs::State::in_memory))]
+    fn numbers_at(self, tags: &Tags, x: u32) -> u64
+        ensures { result ≡ jumpers_at (asked self.strict self.n [] tags.now.sets.now tags.now.services.now) x }
+    {
+        if x < self.n {
+            set_at(tags.sets, x)
+        } else if modes::is_service(self.strict, x) {
+            set_at(tags.services, x - modes::ISOLATE)
+        } else {
+            0
+        }
     }
-    if !good(words, regs[3], strict, n, caller, owners, readers) {
-        return false;
+
+    // Whether the caller owns x or is in the set at x.
+    pub fn reaches(self, tags: &Tags, x: u32) -> bool
+        ensures { result ≡ reaches (asked_by self tags.now) self.number x }
+    {
+        self.owns(tags.owners, x) || Set(self.numbers_at(tags, x)).contains(self.number)
     }
-    if !strict {
-        return true;
+
+    // Whether the caller reaches every address of the pair. The first that it does not ends the walk, and nobody reaches an address that
+    // is neither a word nor a service: no walk is longer than memory.
+    fn reaches_all(self, tags: &Tags, pair: Pair) -> bool
+        ensures { result ≡ all_from (reaches (asked_by self tags.now) self.number) pair.first (pair.past - pair.first) }
+    {
+        let first = pair.first as usize;
+        let end = clipped(pair.past, self.n, tags.owners.len());
+        // the words, most of which are the caller's own
+        for x in first..end {
+            if tags.owners[x] != self.number
+                && !Set(set_at(tags.sets, x as u32)).contains(self.number)
+            {
+                return false;
+            }
+        }
+        // the rest
+        for x in first.max(end)..pair.past as usize {
+            if !self.reaches(tags, x as u32) {
+                return false;
+            }
+        }
+        true
     }
-    good(words, regs[4], strict, n, caller, owners, readers)
+
+    // Whether the caller reaches every address of the set.
+    pub fn within(self, set: &AddressSet, tags: &Tags) -> bool
+        ensures { result ≡ within (set_of set.now) (reaches (asked_by self tags.now) self.number) }
+    {
+        (0..set.count()).all(|j| self.reaches_all(tags, set.pair(j)))
+    }
+
+    // Whether the set is inside memory and in order, and in strict mode the caller may read its words, count and pairs.
+    pub fn good(self, set: &AddressSet, owners: &[u32], readers: &[u64]) -> bool
+        ensures { result ≡ good_set set.now.words.now self.n (reads (reading self.strict self.n owners.now readers.now) self.number) set.now.at }
+    {
+        if !set.is_in_order(self.n) {
+            return false;
+        }
+        if !self.strict {
+            return true;
+        }
+        let past = set.at + 1 + 2 * set.count();
+        let pair = Pair {
+            first: set.at,
+            past,
+        };
+        let tags = Tags {
+            owners,
+            sets: readers,
+            services: &[],
+        };
+        self.reaches_all(&tags, pair)
+    }
 }
 
-// Whether the caller may give the sets away: all of A' is its own, and all of J', of S' and in strict mode of R' is its own or open to it
-// by grants.
-pub fn all_within(
-    regs: &[u32; 16],
-    strict: bool,
-    n: u32,
-    caller: u32,
-    services: &[u64],
-    words: &[u32],
-    owners: &[u32],
-    jumpers: &[u64],
-    writers: &[u64],
-    readers: &[u64],
-) -> bool
-    ensures { result ≡ sets_within (called strict regs.now n caller 0 services.now words.now owners.now jumpers.now writers.now readers.now) caller }
-{
-    // no sets: nobody is in them
-    let none = &services[..0];
-    if !within(words, regs[1], strict, n, caller, owners, none, none) {
-        return false;
-    }
-    if !within(words, regs[2], strict, n, caller, owners, jumpers, services) {
-        return false;
-    }
-    if !within(words, regs[3], strict, n, caller, owners, writers, none) {
-        return false;
-    }
-    if !strict {
-        return true;
-    }
-    within(words, regs[4], strict, n, caller, owners, readers, none)
+/// A call of a service: who calls, its registers, the first unused compartment number and the sets of the services.
+#[derive(Clone, Copy)]
+pub struct Call<'a> {
+    pub caller: Caller,
+    pub regs: &'a [u32; 16],
+    pub next: u32,
+    pub services: [u64; 4],
 }
 
-// Whether r15 is a memory word that the caller owns and keeps when A' is taken away.
-pub fn returns(
-    regs: &[u32; 16],
-    strict: bool,
-    n: u32,
-    caller: u32,
-    words: &[u32],
-    owners: &[u32],
-) -> bool
-    ensures { result ≡ returns (called strict regs.now n caller 0 [] words.now owners.now [] [] []) caller }
-{
-    let back = regs[15];
-    if back >= n {
-        return false;
+impl Call<'_> {
+    // The set that register r points at.
+    pub fn set<'a>(&self, r: usize, words: &'a [u32]) -> AddressSet<'a>
+        ensures { result ≡ record { words = words.entry; at = reg self.now.regs.now r } }
+    {
+        let regs = self.regs;
+        AddressSet {
+            words,
+            at: regs.get(r).copied().unwrap_or(0),
+        }
     }
-    if !owns(strict, n, caller, owners, back) {
-        return false;
+
+    // Whether the set that register r points at is good.
+    #[tactic(auto, unfolding(rules::specs::State::reads, rules::specs::State::owns, rules::specs::State::has_owner, rules::specs::State::owner_at, rules::specs::State::may_read, rules::specs::State::readers_at, rules::specs::State::in_memory))]
+    fn good(&self, r: usize, lent: &Memories) -> bool
+        ensures { result ≡ good_in (lent_to self.now lent.now) self.now.caller.number r }
+    {
+        self.caller
+            .good(&self.set(r, lent.words), lent.owners, lent.readers)
     }
-    !has(words, regs[1], back)
+
+    // Whether the sets that the caller points at are good: three, and in strict mode R' too.
+    #[tactic(auto, unfolding(rules::specs::Checks::good_sets))]
+    pub fn all_good(&self, lent: &Memories) -> bool
+        ensures { result ≡ good_sets (lent_to self.now lent.now) self.now.caller.number }
+    {
+        self.good(1, lent)
+            && self.good(2, lent)
+            && self.good(3, lent)
+            && (!self.caller.strict || self.good(4, lent))
+    }
+
+    // Whether the set that register r points at is within what the caller reaches by these tags.
+    fn within(&self, r: usize, lent: &Memories, tags: &Tags) -> bool
+        ensures { result ≡ within (set_at lent.now.words.now (reg self.now.regs.now r)) (reaches (asked_by self.now.caller tags.now) self.now.caller.number) }
+    {
+        self.caller.within(&self.set(r, lent.words), tags)
+    }
+
+    // Whether the caller may give the sets away: all of A' is its own, and all of J', of S' and in strict mode of R' is its own or open to
+    // it by grants.
+    #[tactic(auto, using(crate::specs::ReachLaws::sets_within_lem))]
+    pub fn all_within(&self, lent: &Memories) -> bool
+        ensures { result ≡ sets_within (lent_to self.now lent.now) self.now.caller.number }
+    {
+        let owned = Tags {
+            owners: lent.owners,
+            sets: &[],
+            services: &[],
+        };
+        let jumped = Tags {
+            sets: lent.jumpers,
+            services: &self.services,
+            ..owned
+        };
+        let stored = Tags {
+            sets: lent.writers,
+            ..owned
+        };
+        let read = Tags {
+            sets: lent.readers,
+            ..owned
+        };
+        self.within(1, lent, &owned)
+            && self.within(2, lent, &jumped)
+            && self.within(3, lent, &stored)
+            && (!self.caller.strict || self.within(4, lent, &read))
+    }
+
+    // Whether r15 is a memory word that the caller owns and keeps when A' is taken away.
+    #[tactic(auto, using(crate::specs::ReachLaws::leaves))]
+    pub fn returns(&self, lent: &Memories) -> bool
+        ensures { result ≡ returns (lent_to self.now lent.now) self.now.caller.number }
+    {
+        let back = self.regs[15];
+        back < self.caller.n
+            && self.caller.owns(lent.owners, back)
+            && !self.set(1, lent.words).contains(back)
+    }
 }

@@ -1,4 +1,3 @@
 -- ---- laws of reading an image, and what the reader promises
 pub mod Views
 pub mod Reading
-pub mod Verdicts

@@ -5,24 +5,17 @@ mod verdict;
 
 ghost use Rattle.std.specs.Prelude.{◌≡◌, ◌+◌, ◌-◌, ◌*◌, ◌≤◌, [], ◌∷◌, ◌++◌, length, replicate};
 ghost use Rattle.rules.specs.Images.{field, fields, check};
-ghost use Rattle.reader.specs.Views.{image_of, checked_of};
+ghost use Rattle.reader.specs.Views.{read_of, image_of, checked_of};
 
 use crate::verdict::image_verdict;
+use answers::Refusal;
 
-// Answer 0 with N, the sixteen registers and the entry; or a refusal and zeros.
+/// What an accepted image says: N, the sixteen registers and the entry.
 #[derive(Clone, Copy)]
 pub struct Image {
-    pub answer: u32,
     pub size: u32,
     pub regs: [u32; 16],
     pub entry: u32,
-}
-
-// Answer 0 with N; or a refusal and 0.
-#[derive(Clone, Copy)]
-pub struct Checked {
-    pub answer: u32,
-    pub size: u32,
 }
 
 // Memories of so many places hold every image.
@@ -32,7 +25,7 @@ const PLACES: usize = 2048;
 pub fn number(b0: u8, b1: u8, b2: u8, b3: u8) -> u32
     ensures { result ≡ field (b0 ∷ b1 ∷ b2 ∷ b3 ∷ []) 0 }
 {
-    b0 as u32 + 256 * (b1 as u32) + 65536 * (b2 as u32) + 16777216 * (b3 as u32)
+    u32::from_le_bytes([b0, b1, b2, b3])
 }
 
 // The number in the four bytes from a place on.
@@ -48,48 +41,30 @@ fn registers(bytes: &[u8], at: usize, count: u32) -> [u32; 16]
     requires { (count ≤ 16) × (at + 4 * count ≤ length bytes.now) }
     ensures { result ≡ fields bytes.now at count ++ replicate (16 - count) 0 }
 {
-    let mut regs = [0u32; 16];
-    let mut i = 0;
-    while i < count as usize {
+    let mut regs = [0; 16];
+    for i in 0..count as usize {
         regs[i] = field(bytes, at + 4 * i);
-        i += 1;
     }
     regs
 }
 
 // Reads an image that is to fill memories of the given length.
-pub fn read(bytes: &[u8], lent: usize) -> Image
-    ensures { result ≡ image_of lent bytes.now }
+pub fn read(bytes: &[u8], lent: usize) -> Result<Image, Refusal>
+    ensures { read_of result ≡ image_of lent bytes.now }
 {
-    let answer = image_verdict(bytes, lent);
-    if answer != answers::DONE {
-        return Image {
-            answer,
-            size: 0,
-            regs: [0u32; 16],
-            entry: 0,
-        };
-    }
+    image_verdict(bytes, lent)?;
     let size = field(bytes, 0);
     let at = 4 + 4 * (size as usize);
     let count = field(bytes, at);
     let regs = registers(bytes, at + 4, count);
     let entry = field(bytes, at + 8 + 4 * (count as usize));
-    Image {
-        answer,
-        size,
-        regs,
-        entry,
-    }
+    Ok(Image { size, regs, entry })
 }
 
 // Checks an image, with no memory: what a load into memories of 2,048 places would answer, and N.
-pub fn check(bytes: &[u8]) -> Checked
+pub fn check(bytes: &[u8]) -> Result<u32, Refusal>
     ensures { checked_of result ≡ check bytes.now }
 {
-    let image = read(bytes, PLACES);
-    Checked {
-        answer: image.answer,
-        size: image.size,
-    }
+    let image = read(bytes, PLACES)?;
+    Ok(image.size)
 }

@@ -1,9 +1,11 @@
 -- The counts in the forms in which the code comes to them: the places of one list, and the services.
-use Rattle.std.specs.Prelude.{◌≡◌, Bool, ◌&&◌, not, List, ℕ, suc, ◌+◌, ◌-◌, ◌≤◌, ◌<◌, min, max, ltb, eqb, get_or, length}
+use Rattle.std.specs.Prelude.{◌≡◌, Bool, ◌&&◌, not, List, ℕ, zero, suc, ◌+◌, ◌-◌, ◌≤◌, ◌<◌, min, max, ltb, eqb, get_or, length, take, count_by, nat_lt, ◌==◌}
+use Rattle.std.specs.Ordering.{nat_cmp, ord_min, ord_max}
 use Rattle.std.proofs.Math.Path.{refl, sym, ap, ap₂}
 use Rattle.std.proofs.Common.{◌∙◌, arith, zero-add, add-zero, add-one}
+use Rattle.std.proofs.lemmas.List.Sums.{count_by_more_yes, count_by_more_no}
 use Rattle.std.proofs.Math.Bool.{true, false, and-false}
-use borrow.Author.Tests.{lt-ltb, ltb-false, le-leb, lt-leb, not-true, not-false}
+use borrow.Author.Tests.{ltb-true, lt-ltb, ltb-false, le-leb, lt-leb, not-true, not-false}
 use Rattle.common.specs.Instructions.{bit}
 use Rattle.common.specs.Services.{isolate, service_count, is_service, service_at}
 use Rattle.common.proofs.Laws.ServiceLaws.{is_service_lem, is_fourth}
@@ -13,6 +15,25 @@ use Rattle.rules.specs.State.{State, in_memory, has_owner, owner_at, jumpers_at,
 use Rattle.rules.specs.Laws.CountLaws.{count_most, count_same}
 use Rattle.rules.specs.Counts.{count_from, address_count, owned_count, jump_count, store_count, writer_count, most_below}
 
+-- ---- the library's least and greatest of two numbers
+
+module _ (a b : ℕ) where
+  pub least : ord_min nat_cmp a b ≡ min a b
+  least = go (nat_lt b a) (b == a) refl refl
+    where
+      go : (s t : Bool) → nat_lt b a ≡ s → (b == a) ≡ t → ord_min nat_cmp a b ≡ min a b
+      go true t e f = let l = ltb-true b a e in simp e (omega arith)
+      go false true e f = let l = ltb-false b a e in simp (e, f) (omega arith)
+      go false false e f = let l = ltb-false b a e in simp (e, f) (omega arith)
+
+  pub greatest : ord_max nat_cmp a b ≡ max a b
+  greatest = go (nat_lt b a) (b == a) refl refl
+    where
+      go : (s t : Bool) → nat_lt b a ≡ s → (b == a) ≡ t → ord_max nat_cmp a b ≡ max a b
+      go true t e f = let l = ltb-true b a e in simp e (omega arith)
+      go false true e f = let l = ltb-false b a e in simp (e, f) (omega arith)
+      go false false e f = let l = ltb-false b a e in simp (e, f) (omega arith)
+
 -- ---- a count, address by address
 
 module _ (test : ℕ → Bool) where
@@ -20,26 +41,23 @@ module _ (test : ℕ → Bool) where
   unfolding count_from
   count_more k = ap (count_from test 0) (add-one k) ∙ ap (λ (x : ℕ). count_from test 0 k + bit (test x)) (zero-add k)
 
--- a loop that counts the places where the test holds, at x
-pub record Counting (test : ℕ → Bool) (places count x : ℕ) : Type 0 where
-  pub most : x ≤ places
-  pub small : count ≤ x
-  pub same : count ≡ count_from test 0 x
+-- the places of the first k items of a list, by the items that pass
+count_by_take : (p : ℕ → Bool) (xs : List ℕ) (k : ℕ) → k ≤ length xs → count_by p (take k xs) ≡ count_from (λ x. p (get_or xs x 0)) 0 k
+unfolding count_from
+count_by_take p xs zero h = refl
+count_by_take p xs (suc k) h = go (p (get_or xs k 0)) refl (count_by_take p xs k (omega arith))
+  where
+    go : (t : Bool) → p (get_or xs k 0) ≡ t → count_by p (take k xs) ≡ count_from (λ x. p (get_or xs x 0)) 0 k
+        → count_by p (take (suc k) xs) ≡ count_from (λ x. p (get_or xs x 0)) 0 k + bit (p (get_or xs (0 + k) 0))
+    go true e ih =
+        let z = count_by_more_yes p xs k 0 (omega arith) e in
+        simp (zero-add, e) (ap (λ (j : ℕ). count_by p (take j xs)) (sym (add-one k)) ∙ z ∙ ap (λ (c : ℕ). c + 1) ih)
+    go false e ih =
+        let z = count_by_more_no p xs k 0 (omega arith) e in
+        simp (zero-add, e, add-zero) (ap (λ (j : ℕ). count_by p (take j xs)) (sym (add-one k)) ∙ z ∙ ih)
 
-module _ (test : ℕ → Bool) (places : ℕ) where
-  pub count_starts : Counting test places 0 0
-  unfolding count_from
-  count_starts = record { most = omega arith; small = omega arith; same = refl }
-
-  -- the place at x has it or not
-  pub count_goes : (count x count' : ℕ) → Counting test places count x → x < places → (b : Bool) → test x ≡ b → count' ≡ count + bit b
-      → Counting test places count' (x + 1)
-  count_goes count x count' w h b e a =
-      let m = bit_most b in
-      record { most = omega arith; small = omega arith; same = a ∙ ap (λ (k : ℕ). k + bit b) w.same ∙ ap (λ (z : Bool). count_from test 0 x + bit z) (sym e) ∙ sym (count_more test x) }
-
-  pub count_ends : (count x n : ℕ) → Counting test places count x → places ≤ x → places ≡ n → count ≡ count_from test 0 n
-  count_ends count x n w h e = let o = w.most in let z : x ≡ n = omega arith in w.same ∙ ap (count_from test 0) z
+pub counted : (p : ℕ → Bool) (xs : List ℕ) (r k n : ℕ) → r ≡ count_by p (take k xs) → k ≡ min n (length xs) → r ≡ count_from (λ x. p (get_or xs x 0)) 0 (min n (length xs))
+counted p xs r k n e h = e ∙ count_by_take p xs k (omega arith) ∙ ap (count_from (λ x. p (get_or xs x 0)) 0) h
 
 -- ---- the places of one list
 

@@ -2,7 +2,7 @@
 // write to the most widely writable word. For any state: where a list is shorter than N, its end ends the count.
 #![tactic(auto)]
 
-ghost use Rattle.std.specs.Prelude.{◌≡◌, [], min, length};
+ghost use Rattle.std.specs.Prelude.{◌≡◌, []};
 ghost use Rattle.common.specs.Instructions.{bit};
 ghost use Rattle.rules.specs.Counts.{owned_count, jump_count, store_count, writer_count, widest};
 ghost use Rattle.machine.specs.Views.{state_of};
@@ -11,80 +11,51 @@ ghost use Rattle.report.specs.CountLaws.{places_owned, places_with, outside, fou
 use compartments::Set;
 use machine::Processor;
 use modes::{ADD_JUMP_TARGET, ADD_READ_TARGET, ADD_STORE_TARGET, ISOLATE};
-
-// The shorter of two lengths.
-fn shorter(a: usize, b: usize) -> usize
-    ensures { result ≡ min a b }
-{
-    if b < a {
-        return b;
-    }
-    a
-}
-
-// How many places are looked at.
-fn least(n: u32, length: usize) -> usize
-    ensures { result ≡ min n length }
-{
-    shorter(n as usize, length)
-}
+use std::cmp::{max, min};
 
 // How many places below N the number owns.
 fn places_owned(owners: &[u32], n: u32, number: u32) -> u32
     ensures { result ≡ places_owned owners.now n number }
 {
-    let places = least(n, owners.len());
-    let mut count: u32 = 0;
-    let mut x = 0;
-    while x < places {
-        if owners[x] == number {
-            count += 1;
-        }
-        x += 1;
-    }
-    count
+    let places = min(n as usize, owners.len());
+    owners[..places]
+        .iter()
+        .filter(|owner| **owner == number)
+        .count() as u32
 }
 
 // How many of the sets at places below N have the number.
 fn places_with(sets: &[u64], n: u32, number: u32) -> u32
     ensures { result ≡ places_with sets.now n number }
 {
-    let places = least(n, sets.len());
-    let mut count: u32 = 0;
-    let mut x = 0;
-    while x < places {
-        if Set(sets[x]).contains(number) {
-            count += 1;
-        }
-        x += 1;
-    }
-    count
+    let places = min(n as usize, sets.len());
+    sets[..places]
+        .iter()
+        .filter(|set| Set(**set).contains(number))
+        .count() as u32
 }
 
 // 1 for a service at x that has the number and that N does not reach, else 0.
+#[tactic(auto, unfolding(crate::specs::CountLaws::outside))]
 fn service(n: u32, x: u32, has: bool) -> u32
     ensures { result ≡ bit (outside n x has) }
 {
-    if x < n {
-        return 0;
-    }
-    if has {
-        return 1;
-    }
-    0
+    u32::from(n <= x && has)
 }
 
 // How many of the services have the number; the fourth is one in strict mode alone.
+#[tactic(auto, using(crate::specs::CountLaws::service_most, crate::specs::CountLaws::no_fourth, crate::specs::CountLaws::with_fourth))]
 fn services(strict: bool, n: u32, isolate: bool, jump: bool, store: bool, read: bool) -> u32
     ensures { result ≡ four strict n isolate jump store read }
 {
     let three = service(n, ISOLATE, isolate)
         + service(n, ADD_JUMP_TARGET, jump)
         + service(n, ADD_STORE_TARGET, store);
-    if !strict {
-        return three;
+    if strict {
+        three + service(n, ADD_READ_TARGET, read)
+    } else {
+        three
     }
-    three + service(n, ADD_READ_TARGET, read)
 }
 
 // The addresses that a compartment owns, services counted.
@@ -118,29 +89,22 @@ pub fn stores(cpu: Processor, writers: &[u64], number: u32) -> u32
 }
 
 // How many compartments may write to a word: its owner joins its writers; one from 64 on is in no set, and is one more.
+#[tactic(auto, using(crate::specs::CountLaws::joined_most), unfolding(rules::specs::Counts::writer_count))]
 fn writer_count(owner: u32, writers: u64) -> u32
     ensures { result ≡ writer_count owner writers }
 {
     let joined = Set(writers).insert(owner).count();
-    if owner < 64 {
-        return joined;
-    }
-    joined + 1
+    joined + u32::from(owner >= 64)
 }
 
 // The most compartments that may write to any one word below N, its owner counted once.
 pub fn widest(cpu: Processor, owners: &[u32], writers: &[u64]) -> u32
     ensures { result ≡ widest (state_of cpu [] owners.now [] writers.now []) }
 {
-    let places = least(cpu.n, shorter(owners.len(), writers.len()));
-    let mut most: u32 = 0;
-    let mut x = 0;
-    while x < places {
-        let count = writer_count(owners[x], writers[x]);
-        if most < count {
-            most = count;
-        }
-        x += 1;
+    let places = min(cpu.n as usize, min(owners.len(), writers.len()));
+    let mut most = 0;
+    for x in 0..places {
+        most = max(most, writer_count(owners[x], writers[x]));
     }
     most
 }

@@ -8,21 +8,25 @@ pub const JUMPED: u64 = 4294967296;
 const UNASKED: u64 = 8589934592;
 
 // The arrival of a pc number that has not been asked for 15: at a run's begin, and at a service.
+#[tactic(auto, unfolding(crate::specs::Arrivals::unasked))]
 pub fn unasked(prev: u32, jumped: bool) -> u64
     ensures { result ≡ is.unasked prev jumped }
 {
     if jumped {
-        return prev as u64 + JUMPED + UNASKED;
+        prev as u64 + JUMPED + UNASKED
+    } else {
+        prev as u64 + UNASKED
     }
-    prev as u64 + UNASKED
 }
 
+#[tactic(auto, unfolding(crate::specs::Arrivals::prev_of))]
 pub fn prev_of(arrival: u64) -> u32
     ensures { result ≡ is.prev_of arrival }
 {
     (arrival % JUMPED) as u32
 }
 
+#[tactic(auto, unfolding(crate::specs::Arrivals::jumped_of))]
 pub fn jumped_of(arrival: u64) -> bool
     ensures { result ≡ is.jumped_of arrival }
 {

@@ -1,9 +1,10 @@
 -- The lent table, seen as the rules' rows.
-use Rattle.std.specs.Prelude.{ℕ, List, map, slice_index}
-use Rattle.rules.specs.Rows.{Row}
+use Rattle.std.specs.Prelude.{List, map}
+use Rattle.rules.specs.Rows as meant
+use Rattle.rows.specs.declared.Row.{Row}
 
-abbrev pub row_of : List ℕ → Row
-row_of row = record { owned = slice_index row 0; jump = slice_index row 1; store = slice_index row 2 }
+abbrev pub row_of : Row → meant.Row
+row_of row = record { owned = row.owned; jump = row.jump; store = row.store }
 
-abbrev pub table : List (List ℕ) → List Row
+abbrev pub table : List Row → List meant.Row
 table rows = map row_of rows

@@ -1,116 +1,104 @@
 // Where in its bytes an image is refused: the field, and its offset.
-use crate::forms::{tell, tell_nth, tell_one};
+use answers::Refusal;
+use std::{fmt, io};
 
-fn plus(a: u32, b: u32) -> u32 {
-    std::num::wrapping_add_u32(a, b)
+// Why an image may be refused.
+const REFUSALS: [Refusal; 7] = [
+    Refusal::NotWhole,
+    Refusal::BadSize,
+    Refusal::ManyRegisters,
+    Refusal::LastZero,
+    Refusal::BadEntryCount,
+    Refusal::BadEntry,
+    Refusal::BytesLeft,
+];
+
+// The fields of an image; a word or a register has its number.
+#[derive(Clone, Copy)]
+enum Field {
+    Size,
+    Word(u32),
+    Registers,
+    Register(u32),
+    EntryCount,
+    Entry,
+    Behind,
 }
 
-fn byte_at(bytes: &[u8], at: usize) -> u8 {
-    if at < bytes.len() { bytes[at] } else { 0 }
-}
-
-fn pair(low: u8, high: u8) -> u32 {
-    low as u32 + 256 * (high as u32)
-}
-
-// Field i of an image: all have four bytes, the lowest first.
-fn field(bytes: &[u8], i: u32) -> u32 {
-    if i > 4096 {
-        return 0;
+impl Field {
+    // Field i of an image of n words that lists k registers.
+    fn of(i: u32, n: u32, k: u32) -> Field {
+        let register = n.wrapping_add(2);
+        let entry = register.wrapping_add(k);
+        if i == 0 {
+            Field::Size
+        } else if i <= n {
+            Field::Word(i - 1)
+        } else if i == n.wrapping_add(1) {
+            Field::Registers
+        } else if i < entry {
+            Field::Register(i.wrapping_sub(register))
+        } else {
+            match i - entry {
+                0 => Field::EntryCount,
+                1 => Field::Entry,
+                _ => Field::Behind,
+            }
+        }
     }
-    let at = 4 * (i as usize);
-    let low = pair(byte_at(bytes, at), byte_at(bytes, at + 1));
-    let high = pair(byte_at(bytes, at + 2), byte_at(bytes, at + 3));
-    plus(low, 65536 * (high % 65536))
+}
+
+impl fmt::Display for Field {
+    fn fmt<W: fmt::Write>(&self, f: &mut fmt::Formatter<W>) -> fmt::Result {
+        match *self {
+            Field::Size => write!(f, "the number of words"),
+            Field::Word(x) => write!(f, "word {x}"),
+            Field::Registers => write!(f, "the number of registers"),
+            Field::Register(x) => write!(f, "register {x}"),
+            Field::EntryCount => write!(f, "the entry's count"),
+            Field::Entry => write!(f, "the entry"),
+            Field::Behind => write!(f, "what is behind the entry"),
+        }
+    }
+}
+
+// The number in field i: all have four bytes, the lowest first, and what is missing is 0.
+fn number(bytes: &[u8], i: u32) -> u32 {
+    let mut four = [0u8; 4];
+    let rest = bytes.iter().skip((i as usize).saturating_mul(4));
+    for (byte, given) in four.iter_mut().zip(rest) {
+        *byte = *given;
+    }
+    u32::from_le_bytes(four)
 }
 
 // Which field a refusal is about; n is the number of words and k of registers.
-fn refused_field(answer: u32, length: usize, n: u32, k: u32) -> u32 {
-    match answer {
-        20 => (length / 4 % 65536) as u32,
-        21 => 0,
-        22 => plus(n, 1),
-        23 => plus(plus(n, k), 1),
-        24 => plus(plus(n, k), 2),
-        25 => plus(plus(n, k), 3),
-        _ => plus(plus(n, k), 4),
+fn refused_field(refusal: Refusal, length: usize, n: u32, k: u32) -> u32 {
+    let listed = n.wrapping_add(k);
+    match refusal {
+        Refusal::NotWhole => (length / 4 % 65536) as u32,
+        Refusal::BadSize => 0,
+        Refusal::ManyRegisters => n.wrapping_add(1),
+        Refusal::LastZero => listed.wrapping_add(1),
+        Refusal::BadEntryCount => listed.wrapping_add(2),
+        Refusal::BadEntry => listed.wrapping_add(3),
+        _ => listed.wrapping_add(4),
     }
 }
 
-// Which name field i has, with its number there: a word or a register has one.
-#[derive(Clone, Copy)]
-struct Named {
-    name: u32,
-    number: u32,
-}
-
-fn name_of(i: u32, n: u32, k: u32) -> Named {
-    let registers = plus(n, 1);
-    let count = plus(plus(n, k), 2);
-    if i == 0 {
-        return Named { name: 0, number: 0 };
+/// "refused R: FIELD, at byte OFFSET, is V"
+pub fn tell_refusal(rt: &impl Print, answer: u32, bytes: &[u8]) -> io::Result<()> {
+    let known = REFUSALS.iter().find(|refusal| **refusal as u32 == answer);
+    let refusal = known.copied().unwrap_or(Refusal::BytesLeft);
+    let n = number(bytes, 0);
+    let k = number(bytes, n.wrapping_add(1));
+    let i = refused_field(refusal, bytes.len(), n, k);
+    let field = Field::of(i, n, k);
+    let offset = i.wrapping_mul(4);
+    print!(rt; "refused {answer}: {field}, at byte {offset}, ")?;
+    match refusal {
+        Refusal::NotWhole => println!(rt; "is not whole: the image has {} bytes", bytes.len()),
+        Refusal::BytesLeft => println!(rt; "is nothing of an image"),
+        _ => println!(rt; "is {}", number(bytes, i)),
     }
-    if i <= n {
-        return Named {
-            name: 5,
-            number: i - 1,
-        };
-    }
-    if i == registers {
-        return Named { name: 1, number: 0 };
-    }
-    if i < count {
-        return Named {
-            name: 6,
-            number: std::num::wrapping_sub_u32(i, plus(n, 2)),
-        };
-    }
-    Named {
-        name: plus(2, std::num::wrapping_sub_u32(i, count)),
-        number: 0,
-    }
-}
-
-fn tell_field(rt: HostRuntime, f: Named) -> bool {
-    let name = f.name;
-    match name {
-        5 => tell_one(rt, b"word #", f.number),
-        6 => tell_one(rt, b"register #", f.number),
-        _ => tell_nth(
-            rt,
-            b"the number of words|the number of registers|the entry's count|the entry|what is behind the entry",
-            name,
-        ),
-    }
-}
-
-// What is wrong with the field.
-fn tell_fault(rt: HostRuntime, answer: u32, offset: u32, length: u32, value: u32) -> bool {
-    if answer == answers::NOT_WHOLE {
-        return tell(
-            rt,
-            b", at byte #, is not whole: the image has # bytes\n",
-            [offset, length, 0, 0],
-        );
-    }
-    if answer == answers::BYTES_LEFT {
-        return tell_one(rt, b", at byte #, is nothing of an image\n", offset);
-    }
-    tell(rt, b", at byte #, is #\n", [offset, value, 0, 0])
-}
-
-// "refused R: FIELD, at byte OFFSET, is V"
-pub fn tell_refusal(rt: HostRuntime, answer: u32, bytes: &[u8]) -> bool {
-    let n = field(bytes, 0);
-    let k = field(bytes, plus(n, 1));
-    let i = refused_field(answer, bytes.len(), n, k);
-    tell_one(rt, b"refused #: ", answer)
-        && tell_field(rt, name_of(i, n, k))
-        && tell_fault(
-            rt,
-            answer,
-            4 * (i % 65536),
-            (bytes.len() % 1048576) as u32,
-            field(bytes, i),
-        )
 }

@@ -1,66 +1,33 @@
 -- The cases of a step at a service, each in the form in which the code comes to it.
-use Rattle.std.specs.Prelude.{◌≡◌, ℕ, ◌+◌, ◌%◌, ◌^◌, Bool, true, false, not, ◌&&◌, ◌≢◌, List, [], slice_index_or}
+use Rattle.std.specs.Prelude.{◌≡◌, ℕ, true, false, ◌≢◌, List}
 use Rattle.std.proofs.Common.{sym, ◌∙◌}
-use borrow.Author.Tests.{ne_eqb, not-true, not-false}
+use borrow.Author.Tests.{ne_eqb}
 use Rattle.common.specs.Answers as answer
 use Rattle.common.specs.Services as service
-use Rattle.rules.specs.Compartments.{member, empty}
 use Rattle.rules.specs.State.{State}
-use Rattle.monitor.specs.Outcomes.{called, Isolating, isolating, Adding, adding}
-use Rattle.service.specs.Served.{isolated_by, added_by, grown, served_of, call_of, add_of, adds_jump, adds_store, adds_read, serving}
-use Rattle.service.specs.declared.Served.{Served}
+use Rattle.answers.specs.declared.Refusal.{Refusal}
+use Rattle.answers.specs.Numbers.{number}
+use Rattle.answers.specs.Results.{number-not-0}
+use Rattle.monitor.specs.Outcomes.{Isolating, not_isolated, Adding}
+use Rattle.service.specs.Served.{isolated_by, grown, Serving, told, call_of, add_of, isolates, adds_jump, adds_store, adds_read, nowhere, serving}
 
-pub not_grown : (a next : ℕ) → a ≢ answer.done → next ≡ grown a next
-unfolding grown
-not_grown a next h = simp (ne_eqb a answer.done h)
-
-pub one_grown : (a next : ℕ) → a ≡ answer.done → (r : ℕ) → r ≡ (next + 1) % 2 ^ 32 → r ≡ grown a next
-unfolding grown
-one_grown a next h r e = simp h e
-
--- t: whether the caller arrives
-module _ (jumped : Bool) (s : State) (t : Bool) (e : t ≡ (jumped && member (slice_index_or s.cpu.services 0 empty) s.cpu.prev)) where
-  pub isolate_no_arrival : not t ≡ true
-      → record { answer = answer.no_arrival; services = s.cpu.services; owners = s.owners; jumpers = s.jumpers; writers = s.writers; readers = s.readers; owned = 0; jump = 0; store = 0 } ≡ isolated_by jumped s
-  unfolding isolated_by
-  isolate_no_arrival h = simp (sym e ∙ not-true t h)
-
-  pub isolate_arrives : not t ≡ false → (o : Isolating) → o ≡ isolating s → o ≡ isolated_by jumped s
-  unfolding isolated_by
-  isolate_arrives h o i = simp (sym e ∙ not-false t h) i
-
-module _ (strict : Bool) (regs : List ℕ) (n prev : ℕ) (jumped : Bool) (gate : ℕ) (owners sets : List ℕ) (t : Bool) (e : t ≡ (jumped && member gate prev)) where
-  pub add_no_arrival : not t ≡ true → record { answer = answer.no_arrival; sets = sets; joined = 0 } ≡ added_by strict regs n prev jumped gate owners sets
-  unfolding added_by
-  add_no_arrival h = simp (sym e ∙ not-true t h)
-
-  pub add_arrives : not t ≡ false → (o : Adding) → o ≡ adding (called strict regs n prev 0 [] [] owners [] [] []) sets → o ≡ added_by strict regs n prev jumped gate owners sets
-  unfolding added_by
-  add_arrives h o i = simp (sym e ∙ not-false t h) i
-
--- which service it is
 module _ (s : State) where
-  -- the result where it is none
-  abbrev none : Served
-  none = record { answer = answer.no_place; number = 0; next = s.cpu.next; services = s.cpu.services; to = 0; owned = 0; jump = 0; store = 0 }
+  -- what is told where the answer is a refusal
+  pub stops : (o : Serving) (r : Refusal) → o.answer ≡ number r → o ≡ serving s
+      → record { answer = o.answer; number = 0; next = o.next; services = o.services; owners = o.owners; jumpers = o.jumpers; writers = o.writers; readers = o.readers; to = 0; owned = o.owned; jump = o.jump; store = o.store } ≡ told (serving s)
+  stops o r a e = let n = ne_eqb o.answer answer.done (λ z. number-not-0 r (sym a ∙ z)) in simp (← e, n)
 
-  pub at_isolate_lem : s.cpu.pc ≡ service.isolate → (o : Isolating) → o ≡ isolated_by s.cpu.jumped (call_of s) → (next : ℕ) → next ≡ grown o.answer s.cpu.next
-      → record {
-        answer = o.answer;
-        number = 1;
-        next = next;
-        services = o.services;
-        owners = o.owners;
-        jumpers = o.jumpers;
-        writers = o.writers;
-        readers = o.readers;
-        to = s.cpu.next;
-        owned = o.owned;
-        jump = o.jump;
-        store = o.store;
-      } ≡ serving s
+  -- ---- which service it is
+
+  pub at_isolate_lem : s.cpu.pc ≡ service.isolate → (o : Isolating) → o ≡ isolated_by s.cpu.jumped (call_of s) → isolates s o ≡ serving s
   unfolding serving
-  at_isolate_lem h o i next g = simp (h, ← i, g)
+  at_isolate_lem h o i = simp (h, ← i)
+
+  -- next stays where isolate refuses
+  pub refuses : s.cpu.pc ≡ service.isolate → (r : Refusal) (owners jumpers writers readers : List ℕ) → not_isolated (number r) s.cpu.services owners jumpers writers readers ≡ isolated_by s.cpu.jumped (call_of s)
+      → record { answer = number r; number = 0; next = s.cpu.next; services = s.cpu.services; owners = owners; jumpers = jumpers; writers = writers; readers = readers; to = 0; owned = 0; jump = 0; store = 0 } ≡ told (serving s)
+  unfolding serving grown
+  refuses h r owners jumpers writers readers e = let n = ne_eqb (number r) answer.done (number-not-0 r) in simp (h, ← e, n)
 
   pub at_jump : s.cpu.pc ≡ service.add_jump_target → (o : Adding) → o ≡ add_of s 1 s.jumpers → adds_jump s o ≡ serving s
   unfolding serving
@@ -70,17 +37,16 @@ module _ (s : State) where
   unfolding serving
   at_store h o i = simp (h, i)
 
-  pub at_read : s.cpu.pc ≡ service.add_read_target → not s.cpu.strict ≡ false → (o : Adding) → o ≡ add_of s 3 s.readers → adds_read s o ≡ serving s
+  pub at_read : s.cpu.pc ≡ service.add_read_target → s.cpu.strict ≡ true → (o : Adding) → o ≡ add_of s 3 s.readers → adds_read s o ≡ serving s
   unfolding serving
-  at_read h m o i = simp (h, not-false s.cpu.strict m, i)
+  at_read h m o i = simp (h, m, i)
 
   -- there is no fourth in 01's mode
-  pub at_closed : s.cpu.pc ≡ service.add_read_target → not s.cpu.strict ≡ true → (r : Served) → r ≡ none → served_of r s.owners s.jumpers s.writers s.readers ≡ serving s
+  pub at_closed : s.cpu.pc ≡ service.add_read_target → s.cpu.strict ≡ false → nowhere s ≡ serving s
   unfolding serving
-  at_closed h m r e = simp (h, not-true s.cpu.strict m, e)
+  at_closed h m = simp (h, m)
 
-  pub at_none : s.cpu.pc ≢ service.isolate → s.cpu.pc ≢ service.add_jump_target → s.cpu.pc ≢ service.add_store_target → s.cpu.pc ≢ service.add_read_target
-      → (r : Served) → r ≡ none → served_of r s.owners s.jumpers s.writers s.readers ≡ serving s
+  pub at_none : s.cpu.pc ≢ service.isolate → s.cpu.pc ≢ service.add_jump_target → s.cpu.pc ≢ service.add_store_target → s.cpu.pc ≢ service.add_read_target → nowhere s ≡ serving s
   unfolding serving
-  at_none a b c d r e =
-      simp (ne_eqb s.cpu.pc service.isolate a, ne_eqb s.cpu.pc service.add_jump_target b, ne_eqb s.cpu.pc service.add_store_target c, ne_eqb s.cpu.pc service.add_read_target d, e)
+  at_none a b c d =
+      simp (ne_eqb s.cpu.pc service.isolate a, ne_eqb s.cpu.pc service.add_jump_target b, ne_eqb s.cpu.pc service.add_store_target c, ne_eqb s.cpu.pc service.add_read_target d)

@@ -1,5 +1,5 @@
 -- What a step at a service tells of gains moves the rows as the counts of the tags move.
-use Rattle.std.specs.Prelude.{◌≡◌, ℕ, ◌+◌, ◌<◌, ◌≤◌, Bool, true, false, cond, ◌&&◌, ◌≢◌, List, [], ◌==◌, slice_index_or}
+use Rattle.std.specs.Prelude.{◌≡◌, ℕ, ◌+◌, ◌≤◌, Bool, true, false, ◌&&◌, ◌≢◌, List, ◌==◌, slice_index_or}
 use Rattle.std.proofs.Math.Path.{refl}
 use Rattle.std.proofs.Common.{sym, ap, ◌∙◌, subst, arith}
 use borrow.Author.Tests.{eqb-true, eqb-false, eq-eqb, ne_eqb}
@@ -7,10 +7,10 @@ use Rattle.common.specs.Answers as answer
 use Rattle.common.specs.Instructions.{reg, plus}
 use Rattle.common.specs.Services.{isolate, add_jump_target, add_store_target, add_read_target, service_count}
 use Rattle.common.proofs.Laws.ServiceLaws.{service_count_lem}
-use Rattle.common.proofs.Laws.Tests.{both, clash}
-use Rattle.rules.specs.Compartments.{member, empty}
+use Rattle.common.proofs.Laws.Tests.{both}
+use Rattle.rules.specs.Compartments.{empty}
 use Rattle.rules.specs.State.{State, in_memory}
-use Rattle.rules.specs.Checks.{set_a, set_j, set_s, verdict}
+use Rattle.rules.specs.Checks.{verdict}
 use Rattle.rules.specs.Laws.Tested.{formed, isolate_verdict, add_verdict, service_verdict}
 use Rattle.rules.proofs.Laws.FormLaws.{n_most}
 use Rattle.rules.proofs.Laws.Passed.{Passes, passes, Adds, add_inside, Isolates, isolate_passed}
@@ -18,11 +18,11 @@ use Rattle.rules.specs.Laws.CountLaws.{differing, differing_most}
 use Rattle.rules.specs.Laws.RowLaws.{settled, lost_none, gained_none}
 use Rattle.rules.proofs.Laws.ServiceRows.{isolate_rows, jump_rows, store_rows, read_rows}
 use Rattle.rules.specs.Rows.{Row, moved}
-use Rattle.rules.specs.Step.{Stepped, owned, joined, joined_services, join_at, isolated, jump_added, store_added, read_added, ran_service, commit, step}
+use Rattle.rules.specs.Step.{Stepped, isolated, jump_added, store_added, read_added, ran_service, commit, step}
 use Rattle.rules.proofs.Theorems.Formed.{step_formed}
-use Rattle.monitor.specs.Outcomes.{Adding, adding, isolating, joins_at}
-use Rattle.service.specs.Served.{isolated_by, added_by, Serving, call_of, add_of, isolates, adds_jump, adds_store, adds_read, nowhere, serving}
-use Rattle.service.specs.ServiceLaws.{arrives_by, leaves, not_inside, same_isolate, same_add, serving_steps}
+use Rattle.monitor.specs.Outcomes.{adding, isolating, joins_at}
+use Rattle.service.specs.Served.{isolated_by, added_by, Serving, told, call_of, add_of, isolates, adds_jump, adds_store, adds_read, serving}
+use Rattle.service.specs.ServiceLaws.{arrives_by, not_inside, same_isolate, same_add, serving_steps}
 
 -- what compartments gain who came to an answer
 abbrev Moves : State → Serving → State → Type 0
@@ -121,3 +121,14 @@ serving_rows s f h o e d = subst (λ (x : Serving). Moves s x (step s).state) (s
     go false false true g x y z w = simp (x, y, z) (store_moves s f h v (eqb-false _ _ x) (eqb-true _ _ z) (simp (x, y, z) at d'))
     go false false false true x y z w = simp (x, y, z, w) (read_moves s f h v (eqb-false _ _ x) (eqb-true _ _ (both (s.cpu.pc == add_read_target) s.cpu.strict w).0))
     go false false false false x y z w = let q : ◌≡◌ {A = ℕ} 2 0 = simp (x, y, z, w) at d' in absurd (omega arith)
+
+-- as the code comes to it
+pub told_rows : (s : State) (f : formed s ≡ true) (h : s.cpu.n ≤ s.cpu.pc) (o : Serving) → o ≡ told (serving s) → o.answer ≡ answer.done → Moves s o (step s).state
+told_rows s f h o e d = serving_rows s f h o (e ∙ whole (serving s) (ap (λ (x : Serving). x.answer) (sym e) ∙ d)) d
+  where
+    whole : (x : Serving) → (told x).answer ≡ answer.done → told x ≡ x
+    whole x z = go (x.answer == answer.done) refl
+      where
+        go : (b : Bool) → (x.answer == answer.done) ≡ b → told x ≡ x
+        go true c = simp c
+        go false c = let y : x.answer ≡ answer.done = simp c at z in absurd (eqb-false _ _ c y)

@@ -1,6 +1,6 @@
 -- A line put part by part, as the code comes to it.
 use Rattle.std.specs.Prelude.{◌≡◌, ℕ, zero, suc, ◌+◌, ◌-◌, ◌/◌, ◌%◌, ◌^◌, ◌<◌, ◌≤◌, min, Bool, true, false, cond, ◌≢◌, List, [], ◌∷◌, ◌++◌, length, nat_eq, nat_lt, slice_index, refl}
-use Rattle.std.proofs.Common.{sym, ap, ◌∙◌, subst, append_assoc, append-nil, add-zero, ltb-true, ltb-false, lt-ltb, le-ltb, le-leb, ne_eqb, eq-eqb, shr-shr}
+use Rattle.std.proofs.Common.{sym, ap, ◌∙◌, subst, append_assoc, append-nil, add-zero, lt-ltb, le-ltb, le-leb, ne_eqb, eq-eqb, shr-shr}
 use native.Mathlib.Omega.{arith}
 use Rattle.std.proofs.lemmas.Bool.{lt-leb}
 use Rattle.common.specs.Answers as answer

@@ -1,10 +1,9 @@
 -- The line of a run and of an image, as the code comes to it.
-use Rattle.std.specs.Prelude.{◌≡◌, ℕ, ◌+◌, ◌≤◌, Bool, true, false, cond, List, [], ◌++◌, length, take, replicate, ◌==◌, refl}
+use Rattle.std.specs.Prelude.{◌≡◌, ℕ, Err, ◌+◌, ◌≤◌, Bool, true, false, cond, List, [], ◌++◌, length, take, replicate, ◌==◌, refl}
 use Rattle.std.proofs.Math.Path.{sym, ap}
 use Rattle.std.proofs.Common.{◌∙◌, append_assoc, eq-eqb, ne_eqb, length-append}
 use native.Mathlib.Omega.{arith}
 use Rattle.common.specs.Answers as answer
-use Rattle.numerals.specs.Bytes.{bytes}
 use Rattle.numerals.specs.Writing.{Put, put}
 use Rattle.text.specs.Puts.{put_of, put_behind}
 use Rattle.rules.specs.Images as images
@@ -13,6 +12,9 @@ use Rattle.rules.specs.Checks.{instruction_at}
 use Rattle.rules.specs.Counts.{widest}
 use Rattle.machine.specs.declared.Ran.{Ran}
 use Rattle.machine.specs.Views.{state_of, ran_of}
+use Rattle.answers.specs.declared.Refusal.{Refusal}
+use Rattle.answers.specs.Numbers.{number, answer_of}
+use Rattle.answers.specs.Results.{number-not-0}
 use Rattle.loader.specs.declared.Loaded.{Loaded}
 use Rattle.loader.specs.Views.{loaded_of}
 use Rattle.report.specs.Wholes.{widest_whole}
@@ -20,7 +22,7 @@ use Rattle.printed.specs.Text.{line_end, Line, first_fields, refused_line}
 use Rattle.printed.specs.Outcome.{budget, memories, line_of}
 use Rattle.printer.specs.Views.{line}
 use Rattle.printer.specs.Made.{made_text}
-use Rattle.sheets.specs.Lines.{members, target_writers, Entry, refused, ran, ran_entry, load_entry, entry, numbers_text, writers_text, line_text}
+use Rattle.sheets.specs.Lines.{members, target_writers, Entry, refused, ran, ran_entry, load_entry, entry, writers_text, line_text}
 use Rattle.sheets.specs.Totals.{Note, note_of}
 use Rattle.sheets.specs.Told as told
 use Rattle.sheets.proofs.Theorems.Lengths.{writers_asked, writers_most}
@@ -72,28 +74,28 @@ entry_whole r words owners jumpers writers readers =
 
 module _ (strict : Bool) (input : List ℕ) (l : Loaded) (words owners jumpers writers readers : List ℕ)
     (loads : loaded_of l words owners jumpers writers readers ≡ images.load strict input memories) where
-  module _ (ne : l.answer ≡ 0 → ⊥) where
-    refused_is : refused l.answer ≡ entry strict input
+  module _ (refusal : Refusal) (is : l.answer ≡ Err refusal) (k : ℕ) (ek : k ≡ number refusal) where
+    refused_is : refused k ≡ entry strict input
     unfolding entry load_entry
-    refused_is = sym (ap load_entry (sym loads) ∙ simp (ne_eqb l.answer 0 ne))
+    refused_is = sym (ap load_entry (sym loads) ∙ simp (is, ne_eqb (number refusal) 0 (number-not-0 refusal), ek))
 
-    pub refused_made : (out : List ℕ) (n : ℕ) (new : List ℕ) → put_of n new ≡ put (refused_line l.answer) 0 out
-        → record { note = record { refused = true; answer = l.answer; steps = 0 }; made = put_of n new } ≡ meant_of (entry strict input) out
+    pub refused_made : (out : List ℕ) (n : ℕ) (new : List ℕ) → put_of n new ≡ put (refused_line k) 0 out
+        → record { note = record { refused = true; answer = k; steps = 0 }; made = put_of n new } ≡ meant_of (entry strict input) out
     unfolding line_text note_of
     refused_made out n new e =
-        ap (λ (p : Put). record { note = note_of (refused l.answer); made = p }) e ∙ ap (λ (o : Entry). meant_of o out) refused_is
+        ap (λ (p : Put). record { note = note_of (refused k); made = p }) e ∙ ap (λ (o : Entry). meant_of o out) refused_is
 
-    pub refused_short : length (refused_line l.answer) ≤ 19 → length (line_text (entry strict input)) ≤ 308
+    pub refused_short : length (refused_line k) ≤ 19 → length (line_text (entry strict input)) ≤ 308
     unfolding line_text
     refused_short h = let e = ap (λ (o : Entry). length (line_text o)) refused_is in omega arith
 
-  module _ (z : l.answer ≡ 0) (r : Ran) (words' owners' jumpers' writers' readers' : List ℕ)
+  module _ (z : answer_of l.answer ≡ 0) (r : Ran) (words' owners' jumpers' writers' readers' : List ℕ)
       (runs : ran_of r words' owners' jumpers' writers' readers' ≡ rules.run budget (state_of l.cpu words owners jumpers writers readers)) where
     ran_is : ran_entry (ran_of r words' owners' [] writers' []) ≡ entry strict input
     unfolding entry load_entry
     ran_is =
         let s : load_entry (loaded_of l words owners jumpers writers readers) ≡ ran_entry (rules.run budget (state_of l.cpu words owners jumpers writers readers)) =
-        simp (eq-eqb l.answer 0 z) in
+        simp (eq-eqb (answer_of l.answer) 0 z) in
         entry_whole r words' owners' jumpers' writers' readers' ∙ ap ran_entry runs ∙ sym s ∙ ap load_entry loads
 
     pub ran_made : (out : List ℕ) (n : ℕ) (new : List ℕ) → put_of n new ≡ put (line_text (ran_entry (ran_of r words' owners' [] writers' []))) 0 out

@@ -1,12 +1,10 @@
 -- A line counted and the totals put stop by stop, as the code comes to it.
-use Rattle.std.specs.Prelude.{◌≡◌, ℕ, zero, suc, ◌+◌, ◌-◌, ◌*◌, ◌<◌, ◌≤◌, Bool, true, false, cond, not, ◌&&◌, ◌≢◌, List, [], ◌∷◌, ◌++◌, length, set, slice_index, slice_set}
+use Rattle.std.specs.Prelude.{◌≡◌, ℕ, suc, ◌+◌, ◌-◌, ◌*◌, ◌<◌, ◌≤◌, Bool, true, false, cond, not, ◌&&◌, ◌≢◌, List, [], ◌∷◌, ◌++◌, length, slice_index}
 use Rattle.std.proofs.Math.Path.{refl, sym}
 use Rattle.std.proofs.Common.{ap, ◌∙◌, subst, length-append}
-use Rattle.std.proofs.Math.Bool.{and-false, or-false, or-true}
+use Rattle.std.proofs.Math.Bool.{and-false, or-true}
 use native.Mathlib.Omega.{arith}
 use borrow.Author.Tests.{eq-eqb, ne_eqb, le-leb, lt-leb}
-use Rattle.std.proofs.Math.Seq.{set_out}
-use Rattle.common.specs.Instructions.{bit, plus}
 use Rattle.common.proofs.Laws.Tests.{clash}
 use Rattle.numerals.specs.Bytes.{bytes}
 use Rattle.numerals.specs.Writing.{put}
@@ -42,20 +40,6 @@ module _ (strict : Bool) (a : ℕ) where
   pub stop_above : 13 < a → a ≢ 16 → a ≢ 17 → false ≡ is_stop strict a
   unfolding is_stop
   stop_above h m n = sym (simp (lt-leb a 13 h, and-false, ne_eqb a 16 m, ne_eqb a 17 n))
-
--- ---- a run counted
-
-pub away_counted : (refused : Bool) (ended : List ℕ) (a : ℕ) → refused ≡ true
-    → (1 ≡ bit refused) × (ended ≡ cond refused ended (slice_set ended a (plus (slice_index ended a) 1)))
-away_counted refused ended a h = (sym (simp h), sym (simp h))
-
-pub ran_counted : (refused : Bool) (ended : List ℕ) (a : ℕ) → refused ≡ false → (n : ℕ) → n ≡ plus (slice_index ended a) 1
-    → (0 ≡ bit refused) × (slice_set ended a n ≡ cond refused ended (slice_set ended a (plus (slice_index ended a) 1)))
-ran_counted refused ended a h n e = (sym (simp h), ap (set ended a) e ∙ sym (simp h))
-
-pub none_counted : (refused : Bool) (ended : List ℕ) (a : ℕ) → refused ≡ false → length ended ≤ a
-    → (0 ≡ bit refused) × (ended ≡ cond refused ended (slice_set ended a (plus (slice_index ended a) 1)))
-none_counted refused ended a h l = (sym (simp h), sym (simp h (set_out ended a (plus (slice_index ended a) 1) l)))
 
 -- ---- the stops from a on
 

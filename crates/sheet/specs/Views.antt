@@ -1,11 +1,13 @@
 -- The code's results, seen as the definitions' numbers.
-use Rattle.std.specs.Prelude.{ℕ, List}
+use Rattle.std.specs.Prelude.{ℕ, List, Result}
+use Rattle.std.specs.Result.{result_unwrap_or}
+use Rattle.answers.specs.declared.Refusal.{Refusal}
+use Rattle.answers.specs.Numbers.{answer_of}
 use Rattle.numerals.specs.Writing.{Put, put}
 use Rattle.text.specs.Puts.{put_of}
 use Rattle.sheets.specs.Lines.{Entry, line_text}
 use Rattle.sheets.specs.Totals as meant
 use Rattle.sheets.specs.Told as told
-use Rattle.sheet.specs.declared.Told.{Told}
 use Rattle.sheet.specs.declared.Note.{Note}
 use Rattle.sheet.specs.declared.Lined.{Lined}
 use Rattle.sheet.specs.declared.Totals.{Totals}
@@ -14,8 +16,8 @@ use Rattle.sheet.specs.declared.Made.{Made}
 abbrev pub note_of : Note → meant.Note
 note_of n = record { refused = n.refused; answer = n.answer; steps = n.steps }
 
-abbrev pub told_of : Told → List ℕ → told.Told
-told_of r out = record { answer = r.answer; length = r.length; out = out }
+abbrev pub told_of : Result ℕ Refusal → List ℕ → told.Told
+told_of r out = record { answer = answer_of r; length = result_unwrap_or r 0; out = out }
 
 abbrev pub lined_of : Lined → List ℕ → told.Lined
 lined_of r out = record { told = told_of r.told out; note = note_of r.note }

@@ -1,6 +1,6 @@
 // The totals: a line counted, and their text.
 ghost use Rattle.std.specs.Prelude.{◌≡◌, ◌+◌, ◌<◌, ◌≤◌, length, if◌then◌else◌, slice_index, slice_set};
-ghost use Rattle.common.specs.Instructions.{bit, plus};
+ghost use Rattle.common.specs.Instructions.{plus};
 ghost use Rattle.numerals.specs.Writing.{put};
 ghost use Rattle.text.specs.Puts.{put_of};
 ghost use Rattle.printed.specs.Text.{field};
@@ -8,41 +8,38 @@ ghost use Rattle.sheets.specs.Totals.{is_stop, stops_text, stops, totals_text};
 ghost use Rattle.sheet.specs.TotalLaws.{stop_text};
 ghost use Rattle.sheet.specs.Views.{totals_of};
 
-use crate::Totals;
+use crate::{Note, Totals};
+use answers::Refusal;
 use printer::lines::put_field;
 
-// One more run with this answer, unless the image was refused; answers how many were refused.
-pub(crate) fn count(ended: &mut [u32], refused: bool, answer: u32) -> u32
-    ensures counted { result ≡ bit refused }
-    ensures marked { ended.new ≡ (if refused then ended.old else slice_set ended.old answer (plus (slice_index ended.old answer) 1)) }
+// The answers of a run that are stops: those from the first to the last, the one of both modes, and the one of strict mode.
+const FIRST: u32 = Refusal::NoPlace as u32;
+
+const LAST: u32 = Refusal::NoNumber as u32;
+
+const STRAY_BIT: u32 = Refusal::StrayBit as u32;
+
+const LOAD_FORBIDDEN: u32 = Refusal::LoadForbidden as u32;
+
+// One more run with a note's answer, unless the image was refused; an answer that has no place is not counted.
+pub(crate) fn count(ended: &mut [u32], note: Note)
+    ensures { ended.new ≡ (if note.refused then ended.old else slice_set ended.old note.answer (plus (slice_index ended.old note.answer) 1)) }
 {
-    if refused {
-        return 1;
+    let i = note.answer as usize;
+    if !note.refused && i < ended.len() {
+        ended[i] = ended[i].wrapping_add(1);
     }
-    let i = answer as usize;
-    if i < ended.len() {
-        ended[i] = std::num::wrapping_add_u32(ended[i], 1);
-    }
-    0
 }
 
 // 2 to 13 and 16, and 17 in strict mode.
 fn is_stop(strict: bool, a: u32) -> bool
     ensures { result ≡ is_stop strict a }
 {
-    if a < answers::NO_PLACE {
-        return false;
+    match a {
+        FIRST..=LAST | STRAY_BIT => true,
+        LOAD_FORBIDDEN => strict,
+        _ => false,
     }
-    if a <= answers::NO_NUMBER {
-        return true;
-    }
-    if a == answers::STRAY_BIT {
-        return true;
-    }
-    if a == answers::LOAD_FORBIDDEN {
-        return strict;
-    }
-    false
 }
 
 // A name and a count.
@@ -59,25 +56,23 @@ fn put_stop(out: &mut [u8], at: usize, strict: bool, a: u32, n: u32) -> usize
     ensures written { put_of result out.new ≡ put (stop_text strict a n) at out.old }
     ensures bounded { length (stop_text strict a n) ≤ 14 }
 {
-    if !is_stop(strict, a) {
-        return at;
+    if is_stop(strict, a) {
+        let p = put_field(out, at, b" ", a);
+        put_count(out, p, b" ", n)
+    } else {
+        at
     }
-    let p = put_field(out, at, b" ", a);
-    put_count(out, p, b" ", n)
 }
 
 // Every stop and its count.
-fn put_stops(out: &mut [u8], at: usize, strict: bool, ended: &[u32]) -> usize
+fn put_stops(out: &mut [u8], at: usize, strict: bool, ended: &[u32; 18]) -> usize
     requires { at ≤ length out.old }
     ensures written { put_of result out.new ≡ put (stops_text (stops strict) ended.now) at out.old }
     ensures bounded { length (stops_text (stops strict) ended.now) ≤ 252 }
 {
     let mut p = at;
-    let mut a: u32 = 0;
-    while a < 18 {
-        let n = memory::word_at(ended, a);
-        p = put_stop(out, p, strict, a, n);
-        a += 1;
+    for (a, n) in ended.iter().enumerate() {
+        p = put_stop(out, p, strict, a as u32, *n);
     }
     p
 }
@@ -87,12 +82,12 @@ pub(crate) fn put_totals(out: &mut [u8], strict: bool, t: Totals) -> usize
     ensures written { put_of result out.new ≡ put (totals_text strict (totals_of t)) 0 out.old }
     ensures bounded { length (totals_text strict (totals_of t)) ≤ 350 }
 {
-    let p1 = put_count(out, 0, b"images ", t.images);
-    let p2 = put_count(out, p1, b" refused ", t.refused);
-    let p3 = put_count(out, p2, b" halted ", t.ended[1]);
-    let p4 = text::put_text(out, p3, b" stopped");
-    let p5 = put_stops(out, p4, strict, &t.ended);
-    let p6 = put_count(out, p5, b" budget ", t.ended[0]);
-    let p7 = put_count(out, p6, b" steps ", t.steps);
-    text::put_text(out, p7, b"\n")
+    let at = put_count(out, 0, b"images ", t.images);
+    let at = put_count(out, at, b" refused ", t.refused);
+    let at = put_count(out, at, b" halted ", t.ended[1]);
+    let at = text::put_text(out, at, b" stopped");
+    let at = put_stops(out, at, strict, &t.ended);
+    let at = put_count(out, at, b" budget ", t.ended[0]);
+    let at = put_count(out, at, b" steps ", t.steps);
+    text::put_text(out, at, b"\n")
 }

@@ -8,6 +8,7 @@ ghost use Rattle.std.specs.Prelude.{◌≡◌, ◌≤◌, [], length};
 ghost use Rattle.numerals.specs.Writing.{put};
 ghost use Rattle.text.specs.Puts.{put_of};
 ghost use Rattle.machine.specs.Views.{ran_of};
+ghost use Rattle.printer.specs.Endings.{status_of};
 ghost use Rattle.sheets.specs.Lines.{ran_entry, entry, line_text};
 ghost use Rattle.sheets.specs.Totals.{status};
 ghost use Rattle.sheets.specs.Told as told;
@@ -15,7 +16,9 @@ ghost use Rattle.sheet.specs.Views.{made_of, meant_of, told_of, lined_of, note_o
 
 use crate::counting::{count, put_totals};
 use crate::lines::{place, put_end, target_writers};
+use answers::Refusal;
 use machine::Ran;
+use printer::Ending;
 use printer::lines::{put_fields, put_refused};
 
 // No line of an image is longer, and none of the totals.
@@ -23,14 +26,8 @@ pub const LONGEST: usize = 308;
 
 pub const LONGEST_TOTALS: usize = 350;
 
-// Answer 0 and the length of the text, or 31 and 0.
-#[derive(Clone, Copy)]
-pub struct Told {
-    pub answer: u32,
-    pub length: usize,
-}
-
 // What the totals take of a line: the loader's number where the image was refused, else the run's, and how many steps ran.
+// kept: what may not change (`add` takes any note, also one that is refused and has steps, which an enum could not say)
 #[derive(Clone, Copy)]
 pub struct Note {
     pub refused: bool,
@@ -38,10 +35,10 @@ pub struct Note {
     pub steps: u32,
 }
 
-// The line of an image in a lent buffer, and its note.
+// The length of an image's line, or that the lent buffer has no room for it; and its note, whatever the buffer.
 #[derive(Clone, Copy)]
 pub struct Lined {
-    pub told: Told,
+    pub told: Result<usize, Refusal>,
     pub note: Note,
 }
 
@@ -66,14 +63,10 @@ fn put_ran(out: &mut [u8], r: Ran, words: &[u32], owners: &[u32], writers: &[u64
     ensures written { put_of result out.new ≡ put (line_text (ran_entry (ran_of r words.now owners.now [] writers.now []))) 0 out.old }
     ensures bounded { length (line_text (ran_entry (ran_of r words.now owners.now [] writers.now []))) ≤ 308 }
 {
-    let cpu = r.cpu;
-    let answer = r.answer;
-    let widest = report::widest(cpu, owners, writers);
-    let set = target_writers(cpu, words, writers);
-    let p = put_fields(
-        out, answer, r.count, cpu.pc, cpu.prev, cpu.jumped, cpu.next, widest,
-    );
-    put_end(out, p, answer, set)
+    let widest = report::widest(r.cpu, owners, writers);
+    let set = target_writers(r.cpu, words, writers);
+    let end = put_fields(out, r, widest);
+    put_end(out, end, r.answer, set)
 }
 
 // Loads an image into fresh memories, runs it, and puts its line. Here alone a sheet loads and runs.
@@ -95,11 +88,10 @@ fn make(strict: bool, bytes: &[u8], out: &mut [u8]) -> Made
         &mut writers,
         &mut readers,
     );
-    let answer = l.answer;
-    if answer != answers::DONE {
-        let length = put_refused(out, answer);
+    if let Err(refusal) = l.answer {
+        let answer = u32::from(refusal);
         return Made {
-            length,
+            length: put_refused(out, answer),
             note: Note {
                 refused: true,
                 answer,
@@ -116,9 +108,8 @@ fn make(strict: bool, bytes: &[u8], out: &mut [u8]) -> Made
         &mut readers,
         printer::BUDGET,
     );
-    let length = put_ran(out, r, &words, &owners, &writers);
     Made {
-        length,
+        length: put_ran(out, r, &words, &owners, &writers),
         note: Note {
             refused: false,
             answer: r.answer,
@@ -132,14 +123,13 @@ pub fn line(strict: bool, bytes: &[u8], out: &mut [u8]) -> Lined
     ensures { lined_of result out.new ≡ told.line strict bytes.now out.old }
 {
     let mut made = [0u8; LONGEST];
-    let m = make(strict, bytes, &mut made);
-    let length = m.length;
-    let note = m.note;
+    let Made { length, note } = make(strict, bytes, &mut made);
     let told = place(out, &made[..length]);
     Lined { told, note }
 }
 
 // The totals of no lines.
+#[tactic(auto, unfolding(sheets::specs::Told::none))]
 pub fn none() -> Totals
     ensures { totals_of result ≡ told.none }
 {
@@ -156,17 +146,17 @@ pub fn add(t: Totals, n: Note) -> Totals
     ensures { totals_of result ≡ told.added (totals_of t) (note_of n) }
 {
     let mut ended = t.ended;
-    let away = count(&mut ended, n.refused, n.answer);
+    count(&mut ended, n);
     Totals {
-        images: std::num::wrapping_add_u32(t.images, 1),
-        refused: std::num::wrapping_add_u32(t.refused, away),
+        images: t.images.wrapping_add(1),
+        refused: t.refused.wrapping_add(u32::from(n.refused)),
         ended,
-        steps: std::num::wrapping_add_u32(t.steps, n.steps),
+        steps: t.steps.wrapping_add(n.steps),
     }
 }
 
 // Writes the totals' line to the front of the buffer; in strict mode 17 is listed too.
-pub fn total(strict: bool, t: Totals, out: &mut [u8]) -> Told
+pub fn total(strict: bool, t: Totals, out: &mut [u8]) -> Result<usize, Refusal>
     ensures { told_of result out.new ≡ told.total strict (totals_of t) out.old }
 {
     let mut made = [0u8; LONGEST_TOTALS];
@@ -174,12 +164,13 @@ pub fn total(strict: bool, t: Totals, out: &mut [u8]) -> Told
     place(out, &made[..length])
 }
 
-// How the night ended: 0 where every image halted, else 1.
-pub fn ended(t: Totals) -> u32
-    ensures { result ≡ status (totals_of t) }
+// How the night ended: halted where every image did.
+pub fn ended(t: Totals) -> Ending
+    ensures { status_of result ≡ status (totals_of t) }
 {
     if t.ended[1] == t.images {
-        return 0;
+        Ending::Halted
+    } else {
+        Ending::Stopped
     }
-    1
 }

@@ -9,17 +9,23 @@ ghost use Rattle.sheets.specs.Told.{tell};
 ghost use Rattle.sheet.specs.LineLaws.{one_text};
 ghost use Rattle.sheet.specs.Views.{told_of};
 
-use crate::Told;
+use answers::Refusal;
 use compartments::Set;
 use machine::Processor;
 use printer::lines::put_field;
+
+// The answer of a run whose line tells the writers.
+const STORE_FORBIDDEN: u32 = Refusal::StoreForbidden as u32;
 
 // W of the word that the Store at pc names.
 pub(crate) fn target_writers(cpu: Processor, words: &[u32], writers: &[u64]) -> u64
     ensures { result ≡ target_writers (state_of cpu words.now [] [] writers.now []) }
 {
-    let i = instructions::decode(memory::word_at(words, cpu.pc));
-    let x = memory::word_at(&cpu.regs, i.a);
+    let register = match instructions::decode(memory::word_at(words, cpu.pc)) {
+        Ok(instruction) => instruction.a,
+        Err(_) => 0,
+    };
+    let x = memory::word_at(&cpu.regs, register);
     memory::set_at(writers, x)
 }
 
@@ -28,10 +34,11 @@ fn put_number(out: &mut [u8], at: usize, c: u32) -> usize
     requires { at ≤ length out.old }
     ensures { put_of result out.new ≡ put (one_text c) at out.old }
 {
-    if 64 <= c {
-        return at;
+    if c < 64 {
+        put_field(out, at, b" ", c)
+    } else {
+        at
     }
-    put_field(out, at, b" ", c)
 }
 
 // The numbers in a set, a space before each: the lowest of those from `from` on is told by trailing zeros.
@@ -41,6 +48,7 @@ fn put_numbers(out: &mut [u8], at: usize, set: u64) -> usize
 {
     let mut p = at;
     let mut from: u32 = 0;
+    // kept: the new form is no plainer (a `for` goes through 64 numbers, and this from one in the set to the next)
     while from < 64 {
         let c = from + Set(set >> from).lowest();
         p = put_number(out, p, c);
@@ -54,7 +62,7 @@ fn put_writers(out: &mut [u8], at: usize, answer: u32, set: u64) -> usize
     requires { at ≤ length out.old }
     ensures { put_of result out.new ≡ put (writers_text answer (members set)) at out.old }
 {
-    if answer != answers::STORE_FORBIDDEN {
+    if answer != STORE_FORBIDDEN {
         return at;
     }
     let p = text::put_text(out, at, b" writers");
@@ -70,20 +78,14 @@ pub(crate) fn put_end(out: &mut [u8], at: usize, answer: u32, set: u64) -> usize
     text::put_text(out, p, b"\n")
 }
 
-// A text to the front of the lent buffer, where it has room.
-pub(crate) fn place(out: &mut [u8], made: &[u8]) -> Told
+// A text to the front of the lent buffer, where it has room; answers its length.
+pub(crate) fn place(out: &mut [u8], made: &[u8]) -> Result<usize, Refusal>
     ensures { told_of result out.new ≡ tell made.now out.old }
 {
     let length = made.len();
     if out.len() < length {
-        return Told {
-            answer: answers::SHORT_BUFFER,
-            length: 0,
-        };
+        return Err(Refusal::ShortBuffer);
     }
     text::put_text(out, 0, made);
-    Told {
-        answer: answers::DONE,
-        length,
-    }
+    Ok(length)
 }

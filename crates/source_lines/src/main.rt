@@ -5,69 +5,51 @@
 // has a buffer of so many bytes; all others have room for every image.
 #![tactic(auto)]
 
-mod show;
+use outcomes::{MARK, Shown, Texts};
 
-ghost use Rattle.std.specs.Prelude.{◌≤◌, length};
-
-fn byte(text: &[u8], at: usize) -> u8 {
-    if at < text.len() { text[at] } else { 0 }
+// How many bytes the buffer has for a text of this name.
+fn room(name: &[u8]) -> usize {
+    if name.starts_with(b"20") {
+        20
+    } else if name.starts_with(b"19") {
+        19
+    } else {
+        8272
+    }
 }
 
-// Whether a line feed and `== ` stand at a place.
-fn is_mark(text: &[u8], at: usize) -> bool
-    requires { at ≤ length text.now }
-{
-    if byte(text, at) != b'\n' {
-        return false;
-    }
-    if byte(text, at + 1) != b'=' {
-        return false;
-    }
-    if byte(text, at + 2) != b'=' {
-        return false;
-    }
-    byte(text, at + 3) == b' '
-}
+// The sources.
+struct Sources;
 
-// Where the text that begins before a place ends.
-fn case_end(text: &[u8], at: usize) -> usize {
-    let mut p = at;
-    while p < text.len() {
-        if is_mark(text, p) {
-            return p;
-        }
-        p += 1;
+impl Texts for Sources {
+    const MARK: usize = 4;
+
+    fn ends(rest: &[u8]) -> bool {
+        rest.starts_with(b"\n== ")
     }
-    p
-}
 
-// The case whose name begins at a place; answers the place of the next name, or one behind the end.
-fn show_case(rt: HostRuntime, text: &[u8], at: usize) -> usize {
-    let name = tokens::line_end(text, at);
-    let end = case_end(text, name);
-    show::case(rt, text, at, name, end);
-    end
-}
-
-fn show_all(rt: HostRuntime, text: &[u8]) {
-    let mut at = 3;
-    let mut left = text.len();
-    while left > 0 {
-        let end = show_case(rt, text, at);
-        if end >= text.len() {
-            return;
-        }
-        if end < at {
-            return;
-        }
-        at = end + 4;
-        left -= 1;
+    // Assembles a source into a buffer of marks.
+    fn show(rt: HostRuntime, name: &[u8], text: &[u8]) {
+        let mut out = [MARK; 8272];
+        let n = streams::within(room(name), &out);
+        let out = &mut out[..n];
+        let (answer, line, length) = match assembler::assemble(text, out) {
+            Ok(length) => (answers::DONE, 0, length),
+            Err(fault) => (u32::from(fault.refusal), fault.line, 0),
+        };
+        outcomes::print(rt, name);
+        outcomes::print(rt, b": ");
+        // the words begin behind N, and the registers, the entry's count and the entry end an image
+        let words = Shown {
+            first: 1,
+            behind: 3,
+        };
+        outcomes::print_outcome(rt, answer, line, length, words, out);
     }
 }
 
 fn main(rt: HostRuntime) {
     let mut text = streams::source_buffer();
-    let got = streams::read_all(&mut rt.stdin(), &mut text);
-    let n = got.count;
-    show_all(rt, &text[..n]);
+    let n = streams::read_all(&mut rt.stdin(), &mut text).unwrap_or_else(|cut| cut.count);
+    outcomes::show_texts::<Sources>(rt, &text[..n]);
 }

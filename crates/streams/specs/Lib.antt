@@ -1,2 +1,3 @@
 -- ---- what the contracts' counts need
 pub mod Counted
+pub mod Moved

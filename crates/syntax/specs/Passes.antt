@@ -16,9 +16,8 @@ use Rattle.grammar.specs.Laws.Runs.{line_at}
 use Rattle.grammar.specs.Reading.Lexer.{tokens}
 use Rattle.grammar.proofs.Laws.ShapeLaws.{shapes}
 use Rattle.sources.specs.Texts.{reading}
-use Rattle.tokens.specs.Streams.{stream, token_at, token_in}
+use Rattle.tokens.specs.Streams.{Handed, stream, token_at, token_in}
 use Rattle.tokens.specs.StreamLaws.{There, there, stream_ends, stream_line}
-use Rattle.tokens.specs.declared.Taken.{Taken}
 use Rattle.syntax.specs.Rows.{entry, entry_next, entry_row, kind_small}
 use Rattle.syntax.specs.Levels.{leveled, level_of, few}
 
@@ -99,9 +98,9 @@ begins text p = record {
   comes = ap (λ (ts : List Token). shape deepest (map kind_of ts)) (stream_line text p) ∙ shapes deepest (tokens (line_at text p));
 }
 
-module _ (text : List ℕ) (p : ℕ) (t : Taken) (e : t ≡ token_at text p) where
+module _ (text : List ℕ) (p : ℕ) (t : Handed) (e : t ≡ token_at text p) where
   kind_at : t.kind ≡ (token_at text p).kind
-  kind_at = ap (λ (u : Taken). u.kind) e
+  kind_at = ap (λ (u : Handed). u.kind) e
 
   told : t.kind ≢ kind.none → There text p
   told n = there text p (λ z. n (kind_at ∙ z))
@@ -117,7 +116,7 @@ module _ (text : List ℕ) (p : ℕ) (t : Taken) (e : t ≡ token_at text p) whe
   goes_forward n =
       let h : p < (token_at text p).next = (told n).onward in
       let w : (token_at text p).next ≤ length text = (told n).within in
-      let k : t.next ≡ (token_at text p).next = ap (λ (u : Taken). u.next) e in
+      let k : t.next ≡ (token_at text p).next = ap (λ (u : Handed). u.next) e in
       omega arith
 
   -- at the line's end, and at a token
@@ -128,7 +127,7 @@ module _ (text : List ℕ) (p : ℕ) (t : Taken) (e : t ≡ token_at text p) whe
   more n s d =
       ap (λ (ts : List Token). shape_from deepest (map kind_of ts) (at s d)) (told n).first
       ∙ ap (λ (k : ℕ). shape_from deepest (k ∷ kinds_at text (token_at text p).next) (at s d)) (sym (told n).kind)
-      ∙ ap (λ (u : Taken). shape_from deepest (u.kind ∷ kinds_at text u.next) (at s d)) (sym e)
+      ∙ ap (λ (u : Handed). shape_from deepest (u.kind ∷ kinds_at text u.next) (at s d)) (sym e)
 
   module _ (whole s d : ℕ) (x : Passing text whole p s d) (l : ℕ) (f : l ≡ level_of t.kind d) where
     pub refused : deepest < l → l ≡ whole
@@ -141,13 +140,13 @@ module _ (text : List ℕ) (p : ℕ) (t : Taken) (e : t ≡ token_at text p) whe
         go false z r = more (eqb-false t.kind kind.none z) s d ∙ pass_refused (kinds_at text t.next) t.kind s d x.shallow r
 
     -- behind that, by the table
-    module _ (h : l ≤ deepest) (table : List (List ℕ)) (r : table ≡ rows) where
+    module _ (h : l ≤ deepest) (table : List (List ℕ)) (r : table ≡ rows) (column : ℕ) (c : column ≡ t.kind) where
       -- as the code reads it
       abbrev n : ℕ
-      n = entry table s t.kind
+      n = entry table s column
 
       n_next : n ≡ next_of s t.kind
-      n_next = entry_next s t.kind x.row kind_below table r
+      n_next = ap (entry table s) c ∙ entry_next s t.kind x.row kind_below table r
 
       pub ends : t.kind ≡ kind.none → n ≡ whole
       ends z =
@@ -168,7 +167,7 @@ module _ (text : List ℕ) (p : ℕ) (t : Taken) (e : t ≡ token_at text p) whe
 
       pub goes_on : t.kind ≢ kind.none → n ≢ no → Passing text whole t.next n l
       goes_on m z = record {
-        row = entry_row s t.kind x.row kind_below table r z;
+        row = subst (λ (k : ℕ). entry table s k < 20) (sym c) (entry_row s t.kind x.row kind_below table r (λ e. z (ap (entry table s) c ∙ e)));
         shallow = h;
         comes = lands_there false m (ne_eqb n no z);
       }

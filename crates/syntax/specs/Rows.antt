@@ -34,6 +34,16 @@ module _ (s k : ℕ) (h : s < 20) (l : k < 19) where
   pub entry_row : (table : List (List ℕ)) → table ≡ rows → entry table s k ≢ no → entry table s k < 20
   entry_row table e = rw (entry_next table e) (λ n. ⊎_elim (λ z. absurd (n z)) (λ z. z) next_is)
 
+-- the line's end: a shape, or no line
+pub end_shape : (s : ℕ) → s < 20 → (table : List (List ℕ)) → table ≡ rows → (entry table s 0 < 3) ⊎ (entry table s 0 ≡ no)
+end_shape s h table e =
+    rw e
+    (⊎_elim (λ z. inl (ltb-true (entry rows s 0) 3 z)) (λ z. inr (eqb-true (entry rows s 0) no z))
+    (either (ltb (entry rows s 0) 3) (eqb (entry rows s 0) no) (below (λ n. ltb (entry rows n 0) 3 || eqb (entry rows n 0) no) 20 all s h)))
+  where
+    all : all_below (λ n. ltb (entry rows n 0) 3 || eqb (entry rows n 0) no) 20 ≡ true
+    all = unfold rows in refl
+
 -- ---- kinds
 
 pub kind_small : (t : Token) → kind_of t < 19

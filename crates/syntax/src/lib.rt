@@ -1,16 +1,19 @@
 // The shape of a line of source: nothing, a label, a word of memory, or no line.
 #![tactic(auto)]
 
-ghost use Rattle.std.specs.Prelude.{◌≡◌, ◌≤◌};
+mod shapes;
+
+ghost use Rattle.std.specs.Prelude.{◌≡◌, ◌≤◌, ◌<◌, ◌⊎◌, IfOk};
 ghost use Rattle.grammar.specs.Reading.Shapes.{shape_of, rows, lone};
 ghost use Rattle.sources.specs.Texts.{reading};
 ghost use Rattle.grammar.specs.Laws.Runs.{line_at};
+ghost use Rattle.tokens.specs.Kinds.{kind_number};
 ghost use Rattle.syntax.specs.Levels.{level_of};
+ghost use Rattle.syntax.specs.Seen.{seen_level, seen_shape};
 
-// The shapes; a line with nothing on it is 0.
-pub const LABEL: u32 = 1;
-
-pub const WORD: u32 = 2;
+use answers::Refusal;
+pub use shapes::Shape;
+use tokens::Kind;
 
 // How many brackets may be open.
 const DEEPEST: u32 = 16;
@@ -50,51 +53,55 @@ fn table() -> [[u8; 19]; 20]
     ROWS
 }
 
+// Where the states behind tokens of a kind stand in a row.
+fn column(kind: Kind) -> usize
+    ensures { result ≡ kind_number kind }
+{
+    kind as usize
+}
+
 // Whether tokens of a kind stand outside of brackets only.
-fn outside(kind: u32) -> bool
-    ensures { result ≡ lone kind }
+fn outside(kind: Kind) -> bool
+    ensures { result ≡ lone (kind_number kind) }
 {
-    if kind == tokens::REGISTER {
-        return true;
-    }
-    if kind == tokens::COMMA {
-        return true;
-    }
-    if kind == tokens::COLON {
-        return true;
-    }
-    kind == tokens::NONE
+    matches!(
+        kind,
+        Kind::Register | Kind::Comma | Kind::Colon | Kind::None
+    )
 }
 
-// How many brackets are open behind a token; or 50 or 54.
-fn level(kind: u32, depth: u32) -> u32
+// How many brackets are open behind a token.
+fn level(kind: Kind, depth: u32) -> Result<u32, Refusal>
     requires { depth ≤ 16 }
-    ensures { result ≡ level_of kind depth }
+    ensures level { seen_level result ≡ level_of (kind_number kind) depth }
+    ensures few { IfOk result (λ n. n ≤ 16) }
 {
-    if kind == tokens::LEFT {
-        if depth == DEEPEST {
-            return answers::TOO_DEEP;
-        }
-        return depth + 1;
+    match kind {
+        Kind::Left if depth == DEEPEST => Err(Refusal::TooDeep),
+        Kind::Left => Ok(depth + 1),
+        Kind::Right if depth == 0 => Err(Refusal::NoLine),
+        Kind::Right => Ok(depth - 1),
+        _ if depth > 0 && outside(kind) => Err(Refusal::NoLine),
+        _ => Ok(depth),
     }
-    if kind == tokens::RIGHT {
-        if depth == 0 {
-            return answers::NO_LINE;
-        }
-        return depth - 1;
-    }
-    if depth == 0 {
-        return 0;
-    }
-    if outside(kind) {
-        return answers::NO_LINE;
-    }
-    depth
 }
 
-// The shape of the line from a place on; or 50 or 54.
-pub fn shape(text: &[u8], at: usize) -> u32
-    ensures { result ≡ shape_of (reading (line_at text.now at)) }
+// What a line is that ends in a state, by the first entry of the state's row.
+fn ended(entry: u8) -> Result<Shape, Refusal>
+    requires { (entry < 3) ⊎ (entry ≡ 50) }
+    ensures { seen_shape result ≡ entry }
+{
+    match entry {
+        0 => Ok(Shape::Nothing),
+        1 => Ok(Shape::Label),
+        2 => Ok(Shape::Word),
+        _ => Err(Refusal::NoLine),
+    }
+}
+
+/// The shape of the line from a place on; `NoLine` or `TooDeep` where it is no line.
+pub fn shape(text: &[u8], at: usize) -> Result<Shape, Refusal>
+    ensures { seen_shape result ≡ shape_of (reading (line_at text.now at)) }
 {
     let rows = table();
     let mut place = at;
@@ -102,19 +109,15 @@ pub fn shape(text: &[u8], at: usize) -> u32
     let mut depth = 0;
     loop {
         let t = tokens::token(text, place);
-        let kind = t.kind;
-        let behind = level(kind, depth);
-        if DEEPEST < behind {
-            return behind;
-        }
-        let next = rows[state][kind as usize];
-        if kind == tokens::NONE {
-            return next as u32;
+        let behind = level(t.kind, depth)?;
+        let next = rows[state][column(t.kind)];
+        if t.kind == Kind::None {
+            return ended(next);
         }
         if next == X {
-            return answers::NO_LINE;
+            return Err(Refusal::NoLine);
         }
-        state = next as usize;
+        state = usize::from(next);
         depth = behind;
         place = t.next;
     }

@@ -4,45 +4,38 @@
 pub mod explain;
 pub mod trace;
 
-use crate::explain::NOT_TOLD;
 use lines::numbers::argument;
-use lines::{complain, end};
+use lines::status::Status;
+use lines::{end, give_up};
+use std::io;
 
-// The last line on standard error, and a sentence before it where something could not be written.
-fn ends(rt: HostRuntime, status: u32) {
-    if status == NOT_TOLD {
-        complain(rt, b"the text could not be written\n");
+// Ends as what was told came to, or says that it could not be written.
+fn ends(rt: HostRuntime, told: io::Result<Status>) {
+    match told {
+        Ok(status) => end(&rt, status),
+        Err(_) => give_up(&rt, "the text could not be written"),
     }
-    end(rt, status);
 }
 
-// Explains the image on standard input.
+/// Explains the image on standard input.
 pub fn explain_input(rt: HostRuntime) {
     let mut bytes = [0u8; 8273];
-    let got = streams::read_all(&mut rt.stdin(), &mut bytes);
-    if got.failed {
-        complain(rt, b"the image could not be read\n");
-        end(rt, NOT_TOLD);
-        return;
-    }
-    let n = got.count;
-    let budget = argument(rt, 1, 100000);
-    let strict = argument(rt, 2, 0) == 1;
-    ends(rt, explain::explain(rt, strict, &bytes[..n], budget));
+    let Ok(n) = streams::read_all(&mut rt.stdin(), &mut bytes) else {
+        return give_up(&rt, "the image could not be read");
+    };
+    let budget = argument(&rt, 1, 100000);
+    let strict = argument(&rt, 2, 0) == 1;
+    ends(rt, explain::explain(&rt, strict, &bytes[..n], budget));
 }
 
-// Traces the image on standard input.
+/// Traces the image on standard input.
 pub fn trace_input(rt: HostRuntime) {
     let mut bytes = [0u8; 8273];
-    let got = streams::read_all(&mut rt.stdin(), &mut bytes);
-    if got.failed {
-        complain(rt, b"the image could not be read\n");
-        end(rt, NOT_TOLD);
-        return;
-    }
-    let n = got.count;
-    let from = argument(rt, 1, 0);
-    let steps = argument(rt, 2, 4294967295);
-    let strict = argument(rt, 3, 0) == 1;
-    ends(rt, trace::trace(rt, strict, &bytes[..n], from, steps));
+    let Ok(n) = streams::read_all(&mut rt.stdin(), &mut bytes) else {
+        return give_up(&rt, "the image could not be read");
+    };
+    let from = argument(&rt, 1, 0);
+    let steps = argument(&rt, 2, u32::MAX);
+    let strict = argument(&rt, 3, 0) == 1;
+    ends(rt, trace::trace(&rt, strict, &bytes[..n], from, steps));
 }

@@ -1,240 +1,154 @@
 // A line for each step, written as it is made.
-use crate::explain::{NOT_TOLD, REFUSED, USED_UP, status_of};
 use causes::tell_answer;
-use grants::{OWNS, list};
-use lines::say;
+use grants::{Grant, list};
+use lines::status::Status;
+use loader::room::Room;
 use machine::Processor;
-use memory::word_at;
-use sentences::forms::{tell, tell_nth, tell_one};
+use memory::{Memories, word_at};
+use sentences::forms::Spelled;
 use sentences::offsets::tell_refusal;
+use std::io;
+
+fn service_name(pc: u32) -> &'static str {
+    match pc {
+        modes::ISOLATE => "isolate",
+        modes::ADD_JUMP_TARGET => "add jump target",
+        modes::ADD_STORE_TARGET => "add store target",
+        modes::ADD_READ_TARGET => "add read target",
+        _ => "is no place",
+    }
+}
 
 // The step's number, pc, the owner and the instruction, or the service.
-fn tell_head(rt: HostRuntime, number: u32, pc: u32, n: u32, owner: u32, word: u32) -> bool {
-    if pc < n {
-        return tell(rt, b"#: # of #: @", [number, pc, owner, word]);
+fn tell_head(
+    rt: &impl Print,
+    number: u32,
+    cpu: Processor,
+    owner: u32,
+    word: u32,
+) -> io::Result<()> {
+    let pc = cpu.pc;
+    if pc < cpu.n {
+        print!(rt; "{number}: {pc} of {owner}: {}", Spelled(word))
+    } else {
+        print!(rt; "{number}: {pc} {}", service_name(pc))
     }
-    tell(rt, b"#: #", [number, pc, 0, 0])
-        && tell_service(rt, std::num::wrapping_sub_u32(pc, modes::ISOLATE))
 }
 
-fn tell_service(rt: HostRuntime, i: u32) -> bool {
-    if i < 4 {
-        return tell_nth(
-            rt,
-            b" isolate| add jump target| add store target| add read target",
-            i,
-        );
-    }
-    say(rt, b" is no place")
-}
-
-// The first register that the step changed, or 16.
-fn changed(was: &[u32; 16], is: &[u32; 16]) -> u32 {
-    let mut i = 0;
-    while i < 16 {
-        if word_at(was, i) != word_at(is, i) {
-            return i;
+// The first register that the step changed, as "; r2 = 7".
+fn tell_register(rt: &impl Print, was: &[u32; 16], is: &[u32; 16]) -> io::Result<()> {
+    for (i, (was, is)) in was.iter().zip(is).enumerate() {
+        if was != is {
+            return print!(rt; "; r{i} = {is}");
         }
-        i += 1;
     }
-    16
-}
-
-// "; r2 = 7"
-fn tell_register(rt: HostRuntime, was: &[u32; 16], is: &[u32; 16]) -> bool {
-    let i = changed(was, is);
-    if i >= 16 {
-        return true;
-    }
-    tell(rt, b"; r# = #", [i, word_at(is, i), 0, 0])
+    Ok(())
 }
 
 // "; [5] = 42" where the instruction was a Store.
-fn tell_store(rt: HostRuntime, word: u32, regs: &[u32; 16]) -> bool {
-    let d = instructions::decode(word);
-    if d.answer != answers::DONE {
-        return true;
+fn tell_store(rt: &impl Print, word: u32, regs: &[u32; 16]) -> io::Result<()> {
+    match instructions::decode(word) {
+        Ok(i) if i.op == instructions::STORE => {
+            print!(rt; "; [{}] = {}", word_at(regs, i.a), word_at(regs, i.b))
+        }
+        _ => Ok(()),
     }
-    if d.op != 9 {
-        return true;
-    }
-    tell(
-        rt,
-        b"; [#] = #",
-        [word_at(regs, d.a), word_at(regs, d.b), 0, 0],
-    )
 }
 
 // What a step that ran changed, behind what it was.
-fn tell_effect(rt: HostRuntime, before: Processor, after: Processor, word: u32) -> bool {
-    let was = before.regs;
-    let is = after.regs;
+fn tell_effect(rt: &impl Print, before: Processor, after: Processor, word: u32) -> io::Result<()> {
     if before.pc < before.n {
-        return tell_store(rt, word, &was) && tell_register(rt, &was, &is);
+        tell_store(rt, word, &before.regs)?;
+        tell_register(rt, &before.regs, &after.regs)
+    } else if before.pc == modes::ISOLATE {
+        print!(rt; "; next {}", after.next)
+    } else {
+        let place = before.regs[1];
+        print!(rt; "; {} joins {place}", before.prev)
     }
-    if before.pc == modes::ISOLATE {
-        return tell_one(rt, b"; next #", after.next);
-    }
-    tell(rt, b"; # joins #", [before.prev, was[1], 0, 0])
 }
 
 // What the new compartment owns, where there is one.
 fn tell_new(
-    rt: HostRuntime,
+    rt: &impl Print,
     before: Processor,
     after: Processor,
-    owners: &[u32],
-    jumpers: &[u64],
-    writers: &[u64],
-    readers: &[u64],
-) -> bool {
-    if after.next == before.next {
-        return true;
+    lent: &Memories<'_>,
+) -> io::Result<()> {
+    if after.next != before.next {
+        list(rt, Grant::Owns, before.next, ", owns ", after, lent)?;
     }
-    let own = list(
-        rt,
-        OWNS,
-        before.next,
-        b", owns ",
-        after,
-        owners,
-        jumpers,
-        writers,
-        readers,
-    );
-    !own.failed
-}
-
-// A step that did not run.
-fn tell_stop(rt: HostRuntime, answer: u32) -> bool {
-    tell_one(rt, b"; answer #: ", answer) && tell_answer(rt, answer) && say(rt, b"\n")
+    Ok(())
 }
 
 // What came of a step, behind what it was.
 fn tell_step(
-    rt: HostRuntime,
+    rt: &impl Print,
     answer: u32,
     word: u32,
     before: Processor,
     after: Processor,
-    owners: &[u32],
-    jumpers: &[u64],
-    writers: &[u64],
-    readers: &[u64],
-) -> bool {
-    if answer != answers::DONE {
-        return tell_stop(rt, answer);
+    lent: &Memories<'_>,
+) -> io::Result<()> {
+    if answer == 0 {
+        tell_effect(rt, before, after, word)?;
+        tell_new(rt, before, after, lent)?;
+    } else {
+        print!(rt; "; answer {answer}: ")?;
+        tell_answer(rt, answer)?;
     }
-    tell_effect(rt, before, after, word)
-        && tell_new(rt, before, after, owners, jumpers, writers, readers)
-        && say(rt, b"\n")
+    println!(rt; "")
 }
 
-// Makes one step and tells it. What it came to: the record after it, its answer, and whether it was told.
-#[derive(Clone, Copy)]
-struct Traced {
-    cpu: Processor,
-    answer: u32,
-    told: bool,
-}
-
+// Makes one step and tells it; answers the step's answer.
 fn trace_step(
-    rt: HostRuntime,
+    rt: &impl Print,
     number: u32,
-    cpu: Processor,
-    words: &mut [u32],
-    owners: &mut [u32],
-    jumpers: &mut [u64],
-    writers: &mut [u64],
-    readers: &mut [u64],
-) -> Traced {
-    let word = word_at(words, cpu.pc);
-    let begun = tell_head(rt, number, cpu.pc, cpu.n, word_at(owners, cpu.pc), word);
-    let s = cpu.step(words, owners, jumpers, writers, readers);
-    let answer = s.answer;
-    let after = s.cpu;
-    let told = begun
-        && tell_step(
-            rt, answer, word, cpu, after, owners, jumpers, writers, readers,
-        );
-    Traced {
-        cpu: after,
-        answer,
-        told,
-    }
+    cpu: &mut Processor,
+    room: &mut Room<2048>,
+) -> io::Result<u32> {
+    let before = *cpu;
+    let word = word_at(&room.words, before.pc);
+    let owner = word_at(&room.owners, before.pc);
+    tell_head(rt, number, before, owner, word)?;
+    let s = room.step(before);
+    tell_step(rt, s.answer, word, before, s.cpu, &room.lent())?;
+    *cpu = s.cpu;
+    Ok(s.answer)
 }
 
 // Steps from number `from` on, at most `steps` of them.
 fn trace_steps(
-    rt: HostRuntime,
+    rt: &impl Print,
     from: u32,
     steps: u32,
-    begun: Processor,
-    words: &mut [u32],
-    owners: &mut [u32],
-    jumpers: &mut [u64],
-    writers: &mut [u64],
-    readers: &mut [u64],
-) -> u32 {
-    let mut cpu = begun;
-    let mut number = from;
-    let mut left = steps;
-    while 0 < left {
-        let t = trace_step(rt, number, cpu, words, owners, jumpers, writers, readers);
-        if !t.told {
-            return NOT_TOLD;
+    mut cpu: Processor,
+    room: &mut Room<2048>,
+) -> io::Result<Status> {
+    for i in 0..steps {
+        let answer = trace_step(rt, from.wrapping_add(i), &mut cpu, room)?;
+        if answer != 0 {
+            return Ok(Status::of(answer));
         }
-        if t.answer != answers::DONE {
-            return status_of(t.answer);
-        }
-        cpu = t.cpu;
-        number = std::num::wrapping_add_u32(number, 1);
-        left -= 1;
     }
-    USED_UP
+    Ok(Status::UsedUp)
 }
 
-// Traces an image's run in a mode: the first `from` steps are made and not told, then at most `steps` are; answers its status. A run that
-// ends before `from` is told by the step that ended it.
-pub fn trace(rt: HostRuntime, strict: bool, bytes: &[u8], from: u32, steps: u32) -> u32 {
-    let mut words = [0u32; 2048];
-    let mut owners = [0u32; 2048];
-    let mut jumpers = [0u64; 2048];
-    let mut writers = [0u64; 2048];
-    let mut readers = [0u64; 2048];
-    let l = loader::load(
-        strict,
-        bytes,
-        &mut words,
-        &mut owners,
-        &mut jumpers,
-        &mut writers,
-        &mut readers,
-    );
-    if l.answer != answers::DONE {
-        if !tell_refusal(rt, l.answer, bytes) {
-            return NOT_TOLD;
-        }
-        return REFUSED;
+/// Traces an image's run in a mode: the first `from` steps are made and not told, then at most `steps` are; answers its status. A run that
+/// ends before `from` is told by the step that ended it.
+pub fn trace(
+    rt: &impl Print,
+    strict: bool,
+    bytes: &[u8],
+    from: u32,
+    steps: u32,
+) -> io::Result<Status> {
+    let mut room = Room::<2048>::new();
+    let l = room.load(strict, bytes);
+    if let Err(refusal) = l.answer {
+        tell_refusal(rt, u32::from(refusal), bytes)?;
+        return Ok(Status::Refused);
     }
-    let cpu = l.cpu;
-    let r = cpu.run(
-        &mut words,
-        &mut owners,
-        &mut jumpers,
-        &mut writers,
-        &mut readers,
-        from,
-    );
-    trace_steps(
-        rt,
-        r.count,
-        steps,
-        r.cpu,
-        &mut words,
-        &mut owners,
-        &mut jumpers,
-        &mut writers,
-        &mut readers,
-    )
+    let r = room.run(l.cpu, from);
+    trace_steps(rt, r.count, steps, r.cpu, &mut room)
 }

@@ -1,9 +1,12 @@
 -- What is seen of a call that puts a text, and texts put one behind another.
 use Rattle.std.specs.Prelude.{◌≡◌, refl, Bool, true, false, leb, set, take, drop}
-use Rattle.std.proofs.Common.{sym, ◌∙◌, leb-true, leb-false, length-set, take-append-drop, length-take-le, take_all}
+use Rattle.std.proofs.Common.{sym, ◌∙◌, append_assoc, add-one, leb-true, leb-false, length-set, take-append-drop, length-take-le, take_all}
+use Rattle.std.proofs.lemmas.List.{drop-drop}
+use Rattle.std.proofs.lemmas.List.Edits.{sets-eq}
+use borrow.Rule.Slice.PartMut.{put_mid}
 use Rattle.std.proofs.Math.Path.{ap}
 use mathlib.Core.List.{List, [], ◌∷◌, ◌++◌}
-use Prim.Native.Nat.{ℕ, suc, ◌+◌, ◌-◌, ◌≤◌, ◌<◌, min}
+use Prim.Native.Nat.{ℕ, suc, ◌+◌, ◌-◌, ◌≤◌, min}
 use native.Mathlib.Omega.{arith}
 use Rattle.std.proofs.Math.ListN.{length, length-append}
 use Rattle.std.proofs.Math.Seq.{sets, set_out, length-sets}
@@ -19,28 +22,46 @@ sets_out : (l : List ℕ) (i : ℕ) (vs : List ℕ) → length l ≤ i → sets 
 sets_out l i [] h = refl
 sets_out l i (v ∷ vs) h = let e = set_out l i v h in let n = length-set l i v in sets_out (set l i v) (suc i) vs (omega arith) ∙ e
 
-module _ (text out : List ℕ) (at n : ℕ) (h : at < length out) (e : n ≡ min (length text) (length out - at)) where
-  front_whole : sets out at (take n text) ≡ sets out at text
-  front_whole = go (leb (length text) n) refl
+-- a text over the places from one on
+pub put_mid_sets : (out vs : List ℕ) (at k : ℕ) → k ≡ length vs → at + k ≤ length out → put_mid at k out vs ≡ sets out at vs
+put_mid_sets out vs at k e h =
+    ap (λ (l : List ℕ). take at out ++ (vs ++ l)) (drop-drop k at out ∙ ap (λ (n : ℕ). drop (at + n) out) e)
+    ∙ sym (append_assoc (take at out) vs (drop (at + length vs) out)) ∙ sym (sets-eq vs out at (omega arith))
+
+-- the part of a text that has places
+module _ (text out : List ℕ) (at start n : ℕ) (from : start ≡ min at (length out)) (e : n ≡ min (length text) (length out - start)) where
+  front_whole : sets out start (take n text) ≡ sets out at text
+  front_whole = go (leb (length out) at) refl (leb (length text) n) refl
     where
-      go : (b : Bool) → leb (length text) n ≡ b → sets out at (take n text) ≡ sets out at text
-      go true c = ap (sets out at) (take_all n text (leb-true (length text) n c))
-      go false c =
-          let m = leb-false (length text) n c in
+      go : (a : Bool) → leb (length out) at ≡ a → (b : Bool) → leb (length text) n ≡ b → sets out start (take n text) ≡ sets out at text
+      go true d b c =
+          let m = leb-true (length out) at d in
+          sets_out out start (take n text) (omega arith) ∙ sym (sets_out out at text m)
+      go false d true c =
+          let m = leb-false (length out) at d in
+          let s : start ≡ at = omega arith in
+          ap (λ (k : ℕ). sets out k (take n text)) s ∙ ap (sets out at) (take_all n text (leb-true (length text) n c))
+      go false d false c =
+          let m = leb-false (length out) at d in
+          let o = leb-false (length text) n c in
+          let s : start ≡ at = omega arith in
           let l = length-take-le n text (omega arith) in
           let k = length-sets out at (take n text) in
-          sym (sets_out (sets out at (take n text)) (at + n) (drop n text) (omega arith))
+          ap (λ (k : ℕ). sets out k (take n text)) s ∙ sym (sets_out (sets out at (take n text)) (at + n) (drop n text) (omega arith))
           ∙ sets_then out at (at + n) (take n text) (drop n text) (omega arith) ∙ ap (sets out at) (take-append-drop n text)
 
-  -- the part of a text that has places
-  pub front_put : (new : List ℕ) → new ≡ sets out at (take n text) → put_of (at + n) new ≡ put text at out
+  pub front_put : (k : ℕ) (vs : List ℕ) → k ≡ n → vs ≡ take n text → put_of (start + n) (put_mid start k out vs) ≡ put text at out
   unfolding put
-  front_put new s = let k : at + n ≡ min (at + length text) (length out) = omega arith in simp (k, s ∙ front_whole)
+  front_put k vs w t =
+      let i : start + n ≡ min (at + length text) (length out) = omega arith in
+      let l = length-take-le n text (omega arith) in
+      let v = ap length t in
+      simp (i, put_mid_sets out vs start k (omega arith) (omega arith) ∙ ap (sets out start) t ∙ front_whole)
 
--- a text that has none
-pub none_put : (text out : List ℕ) (at : ℕ) → length out ≤ at → put_of (length out) out ≡ put text at out
+-- two bytes that have their places
+pub two_put : (out : List ℕ) (at x y : ℕ) → at + 2 ≤ length out → put_of (at + 2) (set (set out at x) (at + 1) y) ≡ put (x ∷ y ∷ []) at out
 unfolding put
-none_put text out at h = let k : min (at + length text) (length out) ≡ length out = omega arith in simp (k, sets_out out at text h)
+two_put out at x y h = let k : at + 2 ≡ min (at + 2) (length out) = omega arith in simp (← k, add-one at)
 
 -- no text
 pub put_nothing : (out : List ℕ) (at : ℕ) → at ≤ length out → put_of at out ≡ put [] at out

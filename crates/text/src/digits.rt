@@ -1,6 +1,5 @@
 // The digits of a number.
 ghost use Rattle.std.specs.Prelude.{◌≡◌, ◌<◌, ◌≤◌, length};
-ghost use Rattle.std.proofs.lemmas.List.Edits.{sets};
 ghost use Rattle.numerals.specs.Numerals.{glyph, digits, width};
 
 // How many decimal digits a number has.
@@ -9,8 +8,9 @@ pub(crate) fn width(n: u32) -> usize
 {
     let mut k: usize = 1;
     let mut v = n;
+    // kept: the new form is no plainer: one digit goes at a time until one is left, and no count is known before
     while 10 <= v {
-        v = v / 10;
+        v /= 10;
         k += 1;
     }
     k
@@ -22,21 +22,20 @@ pub(crate) fn glyph(d: u32) -> u8
     ensures { result ≡ glyph d }
 {
     if d < 10 {
-        return (48 + d) as u8;
+        b'0' + d as u8
+    } else {
+        b'A' + (d - 10) as u8
     }
-    (55 + d) as u8
 }
 
-// Stores the last n digits of a number at the front of a buffer, the lowest first.
-pub(crate) fn store_digits(out: &mut [u8], base: u32, n: usize, value: u32)
-    requires { (1 < base) × (base ≤ 16) × (n ≤ length out.old) }
-    ensures { out.new ≡ sets out.old 0 (digits base n value) }
+// Fills a buffer with the last digits of a number, as many as it has places.
+pub(crate) fn fill_digits(out: &mut [u8], base: u32, value: u32)
+    requires { (1 < base) × (base ≤ 16) }
+    ensures { out.new ≡ digits base (length out.old) value }
 {
-    let mut i = n;
-    let mut v = value;
-    while 0 < i {
-        i -= 1;
-        out[i] = glyph(v % base);
-        v = v / base;
+    let mut left = value;
+    for i in (0..out.len()).rev() {
+        out[i] = glyph(left % base);
+        left /= base;
     }
 }

@@ -1,17 +1,53 @@
 -- Bytes as the code tells them apart.
-use Rattle.std.specs.Prelude.{◌≡◌, refl, Bool, cond, ◌&&◌, ◌||◌, [], ◌∷◌, ◌⊎◌, ℕ, ◌+◌, ◌-◌, ◌<◌, ◌≤◌, eqb, leb}
+use Rattle.std.specs.Prelude.{◌≡◌, refl, Bool, cond, ◌&&◌, ◌||◌, [], ◌∷◌, ◌⊎◌, ◌≢◌, ℕ, ◌+◌, ◌-◌, ◌<◌, ◌≤◌, eqb, leb}
 use Rattle.std.proofs.Math.Path.{sym}
 use Rattle.std.proofs.Common.{◌∙◌, inl, inr, arith}
 use Rattle.std.proofs.Math.Bool.{true, false}
-use borrow.Author.Tests.{eq-eqb, ne_eqb, eqb-true, le-leb, lt-leb, leb-true, lt-ltb, le-ltb}
+use Rattle.std.specs.Prelude.{Option, None, Some, not}
+use Rattle.std.specs.Option.{is_some}
+use borrow.Author.Tests.{eqb-true, eqb-false, le-leb, lt-leb, leb-true, lt-ltb, le-ltb}
 use Rattle.std.proofs.Math.Dec.{ltb}
 use Rattle.common.proofs.Laws.Tests.{both}
 use Rattle.grammar.specs.Spelling.{between, digit, capital, small, in_word, lower, hex, digit_value, signs}
 use Rattle.grammar.specs.Reading.Lexer.{find}
 use Rattle.grammar.proofs.Laws.Tables.{either}
 use Rattle.grammar.specs.Reading.Kinds.{kind_of}
-use Rattle.tokens.specs.Arms.{Rest, rest_away}
 use Rattle.tokens.specs.Streams.{ends, or_stray}
+
+-- n, unless it is the number that stands for none
+abbrev pub unless : ℕ → ℕ → Option ℕ
+unless z n = cond (eqb n z) None (Some n)
+
+pub unless_some : (z n x : ℕ) → Some x ≡ unless z n → (x ≡ n) × (x ≢ z)
+unless_some z n x = go (eqb n z) refl
+  where
+    go : (t : Bool) → eqb n z ≡ t → Some x ≡ cond t None (Some n) → (x ≡ n) × (x ≢ z)
+    go true e h = absurd (cc)
+    go false e h = let k : x ≡ n = cc in (k, λ w. eqb-false n z e (sym k ∙ w))
+
+pub unless_none : (z n : ℕ) → None ≡ unless z n → n ≡ z
+unless_none z n = go (eqb n z) refl
+  where
+    go : (t : Bool) → eqb n z ≡ t → None ≡ cond t None (Some n) → n ≡ z
+    go true e h = eqb-true n z e
+    go false e h = absurd (cc)
+
+-- what `is_none` says of it
+module _ (z n : ℕ) (o : Option ℕ) (e : o ≡ unless z n) (b : Bool) (h : is_some o ≡ not b) where
+  pub none_tells : b ≡ eqb n z
+  none_tells = go b (eqb n z) (rw e at h)
+    where
+      go : (b t : Bool) → is_some (cond t None (Some n)) ≡ not b → b ≡ t
+      go true true k = refl
+      go true false k = k
+      go false true k = k
+      go false false k = refl
+
+  pub is_gone : b ≡ true → n ≡ z
+  is_gone k = eqb-true n z (sym none_tells ∙ k)
+
+  pub is_there : b ≡ false → n ≢ z
+  is_there k = eqb-false n z (sym none_tells ∙ k)
 
 -- a byte of a word, its letter made small; and 0 for any other byte
 unfoldable pub folded_of : ℕ → ℕ
@@ -44,45 +80,6 @@ pub bounds : (a c b : ℕ) → between a c b ≡ true → (a ≤ b) × (b ≤ c)
 bounds a c b h = let k = both (leb a b) (leb b c) h in (leb-true a b k.0, leb-true b c k.1)
 
 -- ---- bytes of words
-
--- what a byte is by the four tests of it
-folded_by : (b : ℕ) (d c s u : Bool) → digit b ≡ d → capital b ≡ c → small b ≡ s → eqb b 95 ≡ u → folded_of b ≡ cond (d || c || s || u) (cond c (b + 32) b) 0
-unfolding folded_of in_word lower
-folded_by b d c s u e f g h = simp (e, f, g, h)
-
--- by its range, as the code goes through the ranges
-module _ (b : ℕ) where
-  pub folded_high : 122 < b → 0 ≡ folded_of b
-  unfolding digit capital small
-  folded_high h = sym (folded_by b false false false false (over 48 57 b (omega arith)) (over 65 90 b (omega arith)) (over 97 122 b h) (ne_eqb b 95 (λ e. omega arith)))
-
-  pub folded_small : 97 ≤ b → b ≤ 122 → b ≡ folded_of b
-  unfolding digit capital small
-  folded_small h k = sym (folded_by b false false true false (over 48 57 b (omega arith)) (over 65 90 b (omega arith)) (inside 97 122 b h k) (ne_eqb b 95 (λ e. omega arith)))
-
-  pub folded_low : b < 48 → 0 ≡ folded_of b
-  unfolding digit capital small
-  folded_low h = sym (folded_by b false false false false (under 48 57 b h) (under 65 90 b (omega arith)) (under 97 122 b (omega arith)) (ne_eqb b 95 (λ e. omega arith)))
-
-  pub folded_digit : 48 ≤ b → b ≤ 57 → b ≡ folded_of b
-  unfolding digit capital small
-  folded_digit h k = sym (folded_by b true false false false (inside 48 57 b h k) (under 65 90 b (omega arith)) (under 97 122 b (omega arith)) (ne_eqb b 95 (λ e. omega arith)))
-
-  pub folded_line : b ≡ 95 → b ≡ folded_of b
-  unfolding digit capital small
-  folded_line h = sym (folded_by b false false false true (over 48 57 b (omega arith)) (over 65 90 b (omega arith)) (under 97 122 b (omega arith)) (eq-eqb b 95 h))
-
-  pub folded_middle : 57 < b → b < 65 → 0 ≡ folded_of b
-  unfolding digit capital small
-  folded_middle h k = sym (folded_by b false false false false (over 48 57 b h) (under 65 90 b k) (under 97 122 b (omega arith)) (ne_eqb b 95 (λ e. omega arith)))
-
-  pub folded_capital : 65 ≤ b → b ≤ 90 → b + 32 ≡ folded_of b
-  unfolding digit capital small
-  folded_capital h k = sym (folded_by b false true false false (over 48 57 b (omega arith)) (inside 65 90 b h k) (under 97 122 b (omega arith)) (ne_eqb b 95 (λ e. omega arith)))
-
-  pub folded_last : 90 < b → b < 97 → (b ≡ 95 → ⊥) → 0 ≡ folded_of b
-  unfolding digit capital small
-  folded_last h k n = sym (folded_by b false false false false (over 48 57 b (omega arith)) (over 65 90 b h) (under 97 122 b k) (ne_eqb b 95 n))
 
 lower_capital : (b : ℕ) → capital b ≡ true → lower b ≡ b + 32
 unfolding lower
@@ -147,27 +144,6 @@ some_folded b h = go (in_word b) refl
 
 -- ---- digits
 
-module _ (b : ℕ) where
-  pub digit_low : b < 48 → 16 ≡ digit_of b
-  unfolding digit_of digit
-  digit_low h = simp (under 48 57 b h, under 97 102 b (omega arith))
-
-  pub digit_decimal : 48 ≤ b → b ≤ 57 → b - 48 ≡ digit_of b
-  unfolding digit_of digit
-  digit_decimal h k = simp (inside 48 57 b h k)
-
-  pub digit_middle : 57 < b → b < 97 → 16 ≡ digit_of b
-  unfolding digit_of digit
-  digit_middle h k = simp (over 48 57 b h, under 97 102 b k)
-
-  pub digit_letter : 97 ≤ b → b ≤ 102 → b - 87 ≡ digit_of b
-  unfolding digit_of digit
-  digit_letter h k = simp (over 48 57 b (omega arith), inside 97 102 b h k)
-
-  pub digit_high : 102 < b → 16 ≡ digit_of b
-  unfolding digit_of digit
-  digit_high h = simp (over 48 57 b (omega arith), over 97 102 b h)
-
 -- a byte is a digit of a base
 abbrev pub in_base : ℕ → ℕ → Bool
 in_base base b = ltb (digit_of (lower b)) base
@@ -221,22 +197,3 @@ module _ (b : ℕ) where
       (λ e k h. simp e)
       (λ e k l m h. simp e)
       (λ e k h. absurd (omega arith))
-
--- ---- signs
-
-pub mark_stray : (b : ℕ) → Rest (Unit {0}) (10 ∷ 59 ∷ 44 ∷ 58 ∷ 43 ∷ 45 ∷ 42 ∷ 46 ∷ 40 ∷ 41 ∷ []) b → 18 ≡ mark_of b
-unfolding mark_of signs
-mark_stray b h =
-    let z = rest_away (10 ∷ 59 ∷ 44 ∷ 58 ∷ 43 ∷ 45 ∷ 42 ∷ 46 ∷ 40 ∷ 41 ∷ []) b h in
-    simp (
-      ne_eqb b 10 z.0,
-      ne_eqb b 59 z.1.0,
-      ne_eqb b 44 z.1.1.0,
-      ne_eqb b 58 z.1.1.1.0,
-      ne_eqb b 43 z.1.1.1.1.0,
-      ne_eqb b 45 z.1.1.1.1.1.0,
-      ne_eqb b 42 z.1.1.1.1.1.1.0,
-      ne_eqb b 46 z.1.1.1.1.1.1.1.0,
-      ne_eqb b 40 z.1.1.1.1.1.1.1.1.0,
-      ne_eqb b 41 z.1.1.1.1.1.1.1.1.1.0,
-    )

@@ -1,5 +1,5 @@
 -- What a key stands for: a register, a mnemonic, or the name of a label.
-use Rattle.std.specs.Prelude.{◌≡◌, refl, Bool, true, false, cond, ◌&&◌, List, [], ◌∷◌, ◌++◌, map, ◌≢◌, ℕ, zero, suc, ◌+◌, ◌-◌, ◌<◌, ◌≤◌, eqb, ltb, take, drop}
+use Rattle.std.specs.Prelude.{◌≡◌, refl, Bool, true, false, cond, ◌&&◌, List, [], ◌∷◌, ◌++◌, ◌≢◌, ℕ, zero, suc, ◌+◌, ◌-◌, ◌<◌, ◌≤◌, eqb, ltb, take, drop}
 use Rattle.std.proofs.Common.{sym, ap, ◌∙◌, arith, eqb-true, ne_eqb, ltb-true, take-append-drop}
 use Rattle.std.proofs.Math.Option.{Option, none, some}
 use Rattle.std.proofs.lemmas.Bool.{eqb-false}
@@ -8,29 +8,37 @@ use Rattle.grammar.specs.Tokens.{Token}
 use Rattle.grammar.specs.Spelling.{between, Row, words}
 use Rattle.grammar.proofs.Laws.Tables.{each}
 use Rattle.grammar.specs.Reading.Kinds.{kind_of, number_of}
-use Rattle.tokens.specs.Bytes.{bounds, inside, under, over}
+use Rattle.tokens.specs.Bytes.{bounds}
 use Rattle.tokens.specs.Worth.{worth}
-use Rattle.tokens.specs.Arms.{Away, Rest, rest_away}
 use Rattle.tokens.specs.Keys.{key_of, find_by}
-use Rattle.tokens.specs.declared.words.Kind.{Kind}
+use Rattle.tokens.specs.Kinds.{kind_number}
+use Rattle.tokens.specs.declared.Kind.{Kind}
 
 -- the number of a register by its key, from 29232, the key of r0, to that of r9, or from 7483696, the key of r10, to that of r15; and 16 for any other key
 unfoldable pub register_of : ℕ → ℕ
 register_of k = cond (between 29232 29241 k) (k - 29232) (cond (between 7483696 7483701 k) (k - 7483696 + 10) 16)
 
-abbrev pub both_of : ℕ → ℕ → Kind
-both_of kind number = record { 0 = kind; 1 = number }
+-- a kind, and the number that goes with it
+pub record Both : Type 0 where
+  pub kind : ℕ
+  pub number : ℕ
+
+abbrev pub both_of : ℕ → ℕ → Both
+both_of kind number = record { kind = kind; number = number }
+
+abbrev pub both_seen : Kind × ℕ → Both
+both_seen k = both_of (kind_number k.0) k.1
 
 -- a token's kind and number; what is in no table is a name
-abbrev pub known : Option Token → Kind
+abbrev pub known : Option Token → Both
 known (some t) = both_of (kind_of t) (number_of t)
 known none = both_of 8 0
 
-unfoldable pub known_of : ℕ → Kind
+unfoldable pub known_of : ℕ → Both
 known_of k = known (find_by words k)
 
 -- of the first fourteen words alone, the mnemonics
-unfoldable pub mnemonic_of : ℕ → Kind
+unfoldable pub mnemonic_of : ℕ → Both
 mnemonic_of k = known (find_by (take 14 words) k)
 
 -- ---- registers
@@ -53,12 +61,12 @@ at_below t (suc n) h i l = go (eqb i n) refl (at_below t n k.0 i)
 
 -- the key is that of the register r
 abbrev names : ℕ → ℕ → Bool
-names r k = eqb (known_of k).0 7 && eqb (known_of k).1 r
+names r k = eqb (known_of k).kind 7 && eqb (known_of k).number r
 
 names_known : (r k : ℕ) → names r k ≡ true → both_of 7 r ≡ known_of k
 names_known r k h =
-    let z = both (eqb (known_of k).0 7) (eqb (known_of k).1 r) h in
-    ap (λ (x : ℕ). both_of x r) (sym (eqb-true _ _ z.0)) ∙ ap (both_of (known_of k).0) (sym (eqb-true _ _ z.1))
+    let z = both (eqb (known_of k).kind 7) (eqb (known_of k).number r) h in
+    ap (λ (x : ℕ). both_of x r) (sym (eqb-true _ _ z.0)) ∙ ap (both_of (known_of k).kind) (sym (eqb-true _ _ z.1))
 
 one_digit : all_below (λ i. names i (29232 + i)) 10 ≡ true
 unfolding known_of find_by words worth
@@ -67,28 +75,6 @@ one_digit = refl
 two_digits : all_below (λ i. names (i + 10) (7483696 + i)) 6 ≡ true
 unfolding known_of find_by words worth
 two_digits = refl
-
--- by its range, as the code goes through the ranges
-module _ (k : ℕ) where
-  pub register_low : k < 29232 → 16 ≡ register_of k
-  unfolding register_of
-  register_low h = simp (under 29232 29241 k h, under 7483696 7483701 k (omega arith))
-
-  pub register_digit : 29232 ≤ k → k ≤ 29241 → k - 29232 ≡ register_of k
-  unfolding register_of
-  register_digit h j = simp (inside 29232 29241 k h j)
-
-  pub register_middle : 29241 < k → k < 7483696 → 16 ≡ register_of k
-  unfolding register_of
-  register_middle h j = simp (over 29232 29241 k h, under 7483696 7483701 k j)
-
-  pub register_digits : 7483696 ≤ k → k ≤ 7483701 → k - 7483696 + 10 ≡ register_of k
-  unfolding register_of
-  register_digits h j = simp (over 29232 29241 k (omega arith), inside 7483696 7483701 k h j)
-
-  pub register_high : 7483701 < k → 16 ≡ register_of k
-  unfolding register_of
-  register_high h = simp (over 29232 29241 k (omega arith), over 7483696 7483701 k h)
 
 -- by the two ranges of keys
 by_register : (P : ℕ → Type 0) (k : ℕ) → ((i : ℕ) → i < 10 → k ≡ 29232 + i → P i) → ((i : ℕ) → i < 6 → k ≡ 7483696 + i → P (i + 10)) → P 16 → P (register_of k)
@@ -99,6 +85,9 @@ by_register P k f g h = go (between 29232 29241 k) refl (between 7483696 7483701
     go true e u d = let z = bounds 29232 29241 k e in rw e (f (k - 29232) (omega arith) (omega arith))
     go false e true d = let z = bounds 7483696 7483701 k d in rw (e, d) (g (k - 7483696) (omega arith) (omega arith))
     go false e false d = rw (e, d) h
+
+pub register_most : (k : ℕ) → register_of k ≤ 16
+register_most k = by_register (λ r. r ≤ 16) k (λ i l e. omega arith) (λ i l e. omega arith) (omega arith)
 
 pub known_register : (k : ℕ) → register_of k < 16 → both_of 7 (register_of k) ≡ known_of k
 known_register k =
@@ -136,15 +125,3 @@ unfolding mnemonic_of known_of
 known_mnemonic k l =
     ap known (sym (find_front (take 14 words) (drop 14 words) k registers_numbered l))
     ∙ ap (λ (rs : List Row). known (find_by rs k)) (take-append-drop 14 words)
-
-abbrev pub keys : List Row → List ℕ
-keys rs = map (λ r. key_of r.key) rs
-
-away_none : (rs : List Row) (k : ℕ) → Away (keys rs) k → find_by rs k ≡ none
-unfolding find_by
-away_none [] k h = refl
-away_none (r ∷ rs) k h = rw (ne_eqb k (key_of r.key) h.0) (away_none rs k h.1)
-
-pub no_mnemonic : (k : ℕ) → Rest (Unit {0}) (keys (take 14 words)) k → both_of 8 0 ≡ mnemonic_of k
-unfolding mnemonic_of
-no_mnemonic k h = ap known (sym (away_none (take 14 words) k (rest_away (keys (take 14 words)) k h)))

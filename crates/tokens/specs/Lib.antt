@@ -1,11 +1,11 @@
 -- ---- tokens as numbers and places
 pub mod Streams
+pub mod Kinds
 -- ---- laws for callers
 pub mod KindLaws
 pub mod StreamLaws
 pub mod Heads
 -- ---- laws that the proofs of the functions cite
-pub mod Arms
 pub mod Bytes
 pub mod Worth
 pub mod Keys

@@ -15,12 +15,11 @@ use Rattle.grammar.specs.Spelling.{digit, capital, small, in_word, every, hex, l
 use Rattle.grammar.specs.Reading.Lexer.{hexadecimal_of, number_of_lem}
 use Rattle.grammar.specs.Laws.Runs.{name_at}
 use Rattle.grammar.specs.Reading.Kinds.{clip}
-use Rattle.tokens.specs.Streams.{handed}
+use Rattle.tokens.specs.Streams.{Handed, handed}
 use Rattle.tokens.specs.Bytes.{folded_of, folded_in, none_folded, some_folded, digit_of, in_base, base_ten, base_sixteen, digit_worth}
 use Rattle.tokens.specs.Worth.{worth_value, held, held_small, held_again, clip_held}
 use Rattle.tokens.specs.Names.{name_more, name_none, name_past, by_name}
 use Rattle.tokens.specs.Words.{placed, spelled_on, spelled_at}
-use Rattle.tokens.specs.declared.Taken.{Taken}
 use Rattle.tokens.specs.declared.words.Spelling.{Spelling}
 
 -- the word is made of digits of a base, behind the number n; or it is stray
@@ -28,14 +27,14 @@ abbrev numeral_by : ℕ → ℕ → List ℕ → grammar.Token
 numeral_by base n w = cond (every (in_base base) w) (number (value base n w)) stray
 
 -- the word from p on, as digits behind n; the token begins at a place of its own
-unfoldable pub numeral_on : List ℕ → ℕ → ℕ → ℕ → ℕ → Taken
+unfoldable pub numeral_on : List ℕ → ℕ → ℕ → ℕ → ℕ → Handed
 numeral_on text place p base n = placed (numeral_by base n (name_at text p)) place (p + length (name_at text p))
 
-abbrev pub numeral_at : List ℕ → ℕ → ℕ → ℕ → Taken
+abbrev pub numeral_at : List ℕ → ℕ → ℕ → ℕ → Handed
 numeral_at text place from base = numeral_on text place from base 0
 
 -- a word that begins with a digit
-unfoldable pub number_at : List ℕ → ℕ → Taken
+unfoldable pub number_at : List ℕ → ℕ → Handed
 number_at text place = let w = name_at text place in placed (number_of_lem w) place (place + length w)
 
 -- ---- one turn
@@ -129,10 +128,10 @@ module _ (text : List ℕ) (place z : ℕ) (ez : z ≡ get_or text place 0) wher
   unfolding numeral_on number_at
   plain h = ap (λ (t : grammar.Token). placed t place (place + length (name_at text place))) (decimal_of (name_at text place) (no_hexadecimal h))
 
-  pub number_plain : (z ≡ 48 → ⊥) → (r : Taken) → r ≡ numeral_at text place place 10 → r ≡ number_at text place
+  pub number_plain : (z ≡ 48 → ⊥) → (r : Handed) → r ≡ numeral_at text place place 10 → r ≡ number_at text place
   number_plain n r e = e ∙ plain (λ x ex. rw (ne_eqb z 48 n) refl)
 
-  pub number_other : z ≡ 48 → (x : ℕ) → x ≡ get_or text (place + 1) 0 → (x ≡ 120 → ⊥) → (r : Taken) → r ≡ numeral_at text place place 10 → r ≡ number_at text place
+  pub number_other : z ≡ 48 → (x : ℕ) → x ≡ get_or text (place + 1) 0 → (x ≡ 120 → ⊥) → (r : Handed) → r ≡ numeral_at text place place 10 → r ≡ number_at text place
   number_other e x ex n r er = er ∙ plain (λ y ey. rw (e, ne_eqb y 120 (λ k. n (ex ∙ sym ey ∙ k))) refl)
 
   module _ (e : z ≡ 48) (x : ℕ) (ex : x ≡ get_or text (place + 1) 0) (f : x ≡ 120) where
@@ -157,7 +156,7 @@ module _ (text : List ℕ) (place z : ℕ) (ez : z ≡ get_or text place 0) wher
           let w : name_at text place ≡ 48 ∷ 120 ∷ [] = prefix ∙ ap (λ (u : List ℕ). 48 ∷ 120 ∷ u) v in
           sym (ap (λ (u : List ℕ). placed (number_of_lem u) place (place + length u)) w)
 
-      pub number_hexadecimal : (c ≡ 0 → ⊥) → (r : Taken) → r ≡ numeral_at text place (place + 2) 16 → r ≡ number_at text place
+      pub number_hexadecimal : (c ≡ 0 → ⊥) → (r : Handed) → r ≡ numeral_at text place (place + 2) 16 → r ≡ number_at text place
       unfolding number_at number_of_lem hexadecimal_of digit numeral_on
       number_hexadecimal n r er =
           let i : in_word (get_or text (place + 2) 0) ≡ true = some_folded (get_or text (place + 2) 0) (λ k. n (ec ∙ ap folded_of eh ∙ k)) in

@@ -1,40 +1,75 @@
 -- The token at a place, as the code comes to it.
 use Rattle.std.specs.Prelude.{◌≡◌, Bool, ◌&&◌, List, [], ◌∷◌, map, ◌⊎◌, ℕ, suc, ◌+◌, ◌<◌, ◌≤◌, eqb, get_or, drop}
 use Rattle.std.proofs.Math.Path.{refl, sym, ap}
-use Rattle.std.proofs.Common.{◌∙◌, inl, inr, arith, eqb-true, lt-ltb, le-ltb}
+use Rattle.std.proofs.Common.{◌∙◌, inl, inr, arith, eqb-true, lt-ltb, le-ltb, ltb-false}
 use Rattle.std.proofs.Math.Bool.{true, false, cond, not}
 use Rattle.std.proofs.Math.Option.{Option, none, some}
-use Rattle.std.proofs.Math.ListN.{length}
+use Rattle.std.proofs.Math.ListN.{length, length-drop}
+use Rattle.std.specs.Prelude.{Some, None, max, ltb}
+use Rattle.std.specs.List.{position, position_or_len}
+use Rattle.std.proofs.lemmas.List.Recursion.{is_position_or_len}
 use Rattle.common.proofs.Laws.Tests.{clash}
 use Rattle.grammar.specs.Tokens as grammar
 use Rattle.grammar.specs.Spelling.{digit, capital, small, in_word, lower, words, signs, Row, digit_first}
 use Rattle.grammar.specs.Reading.Lexer.{find, or_label, number_of_lem, token_of}
 use Rattle.grammar.proofs.Laws.Tables.{either, find_at, each, at_each}
-use Rattle.grammar.specs.Laws.Runs.{leading, name_at, line_of, line_end, reach_more, reach_none, reach_end}
+use Rattle.grammar.specs.Laws.Runs.{leading, name_at, line_of, line_end}
 use Rattle.grammar.specs.Reading.Kinds.{kind_of, number_of}
 use Rattle.tokens.specs.KindLaws.{some_kind}
-use Rattle.tokens.specs.Streams.{ends, skipped, more, or_stray, token_in, width_in, handed, token_at}
+use Rattle.tokens.specs.Streams.{ends, skipped, more, or_stray, token_in, width_in, Handed, handed, token_at}
 use Rattle.tokens.specs.Bytes.{folded_of, in_word_bounds, none_folded, some_folded, mark_of, inside, over}
 use Rattle.tokens.specs.Names.{name_more}
 use Rattle.tokens.specs.Words.{placed, word_at}
 use Rattle.tokens.specs.Numerals.{number_at}
-use Rattle.tokens.specs.declared.Taken.{Taken}
 
 -- ---- where a run ends
 
-module _ (t : ℕ → Bool) (text : List ℕ) (p : ℕ) where
-  pub run_turn : p < length text → t (get_or text p 0) ≡ true → p + leading t (drop p text) ≡ p + 1 + leading t (drop (p + 1) text)
-  run_turn h e = let k : leading t (drop p text) ≡ suc (leading t (drop (p + 1) text)) = reach_more t text p h e in omega arith
+pub leading_within : (t : ℕ → Bool) (bs : List ℕ) → leading t bs ≤ length bs
+unfolding leading
+leading_within t [] = omega arith
+leading_within t (b ∷ bs) = go (t b) refl (leading_within t bs)
+  where
+    go : (x : Bool) → t b ≡ x → leading t bs ≤ length bs → leading t (b ∷ bs) ≤ length (b ∷ bs)
+    go true e ih = rw e (omega arith)
+    go false e ih = rw e (omega arith)
 
-  pub run_stops : p < length text → t (get_or text p 0) ≡ false → p ≡ p + leading t (drop p text)
-  run_stops h e = let k : leading t (drop p text) ≡ 0 = reach_none t text p h e in omega arith
+-- a run ends where the first byte stands that does not pass, or at the end
+module _ (t p : ℕ → Bool) (e : (b : ℕ) → p b ≡ not (t b)) where
+  run_position : (l : List ℕ) → leading t l ≡ position_or_len p l
+  unfolding leading
+  run_position l = is_position_or_len (leading t) p refl (λ x xs. rw (e x) (step (t x) (leading t xs))) l
+    where
+      step : (b : Bool) (n : ℕ) → cond b (suc n) 0 ≡ cond (not b) 0 (1 + n)
+      step true n = omega arith
+      step false n = refl
 
-  pub run_past : length text ≤ p → p ≡ p + leading t (drop p text)
-  run_past h = let k : leading t (drop p text) ≡ 0 = reach_end t text p h in omega arith
+  module _ (text : List ℕ) (at : ℕ) where
+    pub run_found : (n : ℕ) → Some n ≡ position p (drop at text) → at + n ≡ at + leading t (drop at text)
+    run_found n h = go (ltb (position_or_len p (drop at text)) (length (drop at text))) h
+      where
+        go : (b : Bool) → Some n ≡ cond b (Some (position_or_len p (drop at text))) None → at + n ≡ at + leading t (drop at text)
+        go true k = let m : n ≡ position_or_len p (drop at text) = cc in ap (λ (x : ℕ). at + x) (m ∙ sym (run_position (drop at text)))
+        go false k = absurd (cc)
+
+    pub run_whole : None ≡ position p (drop at text) → max at (length text) ≡ at + leading t (drop at text)
+    run_whole h = go (ltb (position_or_len p (drop at text)) (length (drop at text))) refl h
+      where
+        go : (b : Bool) → ltb (position_or_len p (drop at text)) (length (drop at text)) ≡ b → None ≡ cond b (Some (position_or_len p (drop at text))) None → max at (length text) ≡ at + leading t (drop at text)
+        go true q k = absurd (cc)
+        go false q k =
+            let l : length (drop at text) ≤ position_or_len p (drop at text) = ltb-false _ _ q in
+            omega (arith, l, run_position (drop at text), leading_within t (drop at text), length-drop at text)
 
 -- the end of a line is the end of a run too
 abbrev pub no_feed : ℕ → Bool
 no_feed b = not (eqb b 10)
+
+pub feed_ends : (b : ℕ) → eqb b 10 ≡ not (no_feed b)
+feed_ends b = go (eqb b 10)
+  where
+    go : (x : Bool) → x ≡ not (not x)
+    go true = refl
+    go false = refl
 
 line_length : (l : List ℕ) → length (line_of l) ≡ leading no_feed l
 unfolding line_of leading
@@ -104,7 +139,7 @@ mark_sign b h = go (ends b) refl
 
 -- ---- the token from a place on
 
-abbrev token_from : List ℕ → ℕ → Taken
+abbrev token_from : List ℕ → ℕ → Handed
 token_from text p = cond (more text p) (placed (token_in text p) p (p + width_in text p)) (handed 0 0 p p)
 
 module _ (text : List ℕ) (at p : ℕ) (ep : p ≡ skipped text at) where
@@ -160,10 +195,10 @@ module _ (text : List ℕ) (at p : ℕ) (ep : p ≡ skipped text at) where
             ∙ sym (ap (λ (x : Bool). placed (cond x (token_of w) (or_stray (find signs (get_or text p 0 ∷ [])))) p (p + cond x (length w) 1)) i)
             ∙ goes_on (not_an_end in_word end_no_word b inner)
 
-        pub number_there : b ≤ 57 → (r : Taken) → r ≡ number_at text p → r ≡ token_at text at
+        pub number_there : b ≤ 57 → (r : Handed) → r ≡ number_at text p → r ≡ token_at text at
         unfolding number_at digit
         number_there l r er = er ∙ word_here true (inside 48 57 b (in_word_bounds b inner).0 l)
 
-        pub word_there : 57 < b → (r : Taken) → r ≡ word_at text p → r ≡ token_at text at
+        pub word_there : 57 < b → (r : Handed) → r ≡ word_at text p → r ≡ token_at text at
         unfolding word_at digit
         word_there l r er = er ∙ word_here false (over 48 57 b l)

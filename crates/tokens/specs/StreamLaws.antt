@@ -21,18 +21,9 @@ use Rattle.grammar.specs.Reading.Kinds.{kind_of, number_of}
 use Rattle.tokens.specs.KindLaws.{name_of, some_kind}
 use Rattle.tokens.specs.Streams.{ends, code, stream, skipped, more, or_stray, token_in, width_in, handed, token_at}
 use Rattle.tokens.specs.Words.{run_every}
-use Rattle.tokens.specs.Reading.{end_no_word, not_an_end}
+use Rattle.tokens.specs.Reading.{leading_within, end_no_word, not_an_end}
 
 -- ---- runs at the front of a list
-
-leading_within : (t : ℕ → Bool) (bs : List ℕ) → leading t bs ≤ length bs
-unfolding leading
-leading_within t [] = omega arith
-leading_within t (b ∷ bs) = go (t b) refl (leading_within t bs)
-  where
-    go : (x : Bool) → t b ≡ x → leading t bs ≤ length bs → leading t (b ∷ bs) ≤ length (b ∷ bs)
-    go true e ih = rw e (omega arith)
-    go false e ih = rw e (omega arith)
 
 -- behind a run no byte passes
 abbrev Stops : (ℕ → Bool) → List ℕ → Type 0

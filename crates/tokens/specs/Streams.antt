@@ -6,7 +6,6 @@ use Rattle.grammar.specs.Spelling.{in_word, blank, signs}
 use Rattle.grammar.specs.Reading.Lexer.{find, token_of, lex}
 use Rattle.grammar.specs.Laws.Runs.{leading, name_at}
 use Rattle.grammar.specs.Reading.Kinds.{kind_of, number_of}
-use Rattle.tokens.specs.declared.Taken.{Taken}
 
 -- LF and the semicolon end what is read of a line
 abbrev pub ends : ℕ → Bool
@@ -41,10 +40,16 @@ unfoldable pub width_in : List ℕ → ℕ → ℕ
 width_in text p = cond (in_word (get_or text p 0)) (length (name_at text p)) 1
 
 -- a token as the code hands it out: kind and number, where it stands, and where reading goes on
-abbrev pub handed : ℕ → ℕ → ℕ → ℕ → Taken
+pub record Handed : Type 0 where
+  pub kind : ℕ
+  pub value : ℕ
+  pub place : ℕ
+  pub next : ℕ
+
+abbrev pub handed : ℕ → ℕ → ℕ → ℕ → Handed
 handed kind value place next = record { kind = kind; value = value; place = place; next = next }
 
-unfoldable pub token_at : List ℕ → ℕ → Taken
+unfoldable pub token_at : List ℕ → ℕ → Handed
 token_at text at =
     let p = skipped text at in
     cond (more text p) (handed (kind_of (token_in text p)) (number_of (token_in text p)) p (p + width_in text p)) (handed 0 0 p p)

@@ -13,18 +13,16 @@ use Rattle.grammar.specs.Spelling.{in_word, every, lower, words}
 use Rattle.grammar.specs.Reading.Lexer.{find, or_label}
 use Rattle.grammar.specs.Laws.Runs.{leading, name_at}
 use Rattle.grammar.specs.Reading.Kinds.{kind_of, number_of}
-use Rattle.tokens.specs.Streams.{handed}
+use Rattle.tokens.specs.Streams.{Handed, handed}
 use Rattle.tokens.specs.Bytes.{folded_of, folded_in, none_folded, some_folded}
 use Rattle.tokens.specs.Worth.{worth, held, held_small, held_again}
 use Rattle.tokens.specs.Keys.{longest, find_by, find_word}
-use Rattle.tokens.specs.Known.{both_of, known, known_of}
+use Rattle.tokens.specs.Known.{Both, both_of, known, known_of}
 use Rattle.tokens.specs.Names.{name_more, name_none, name_past}
-use Rattle.tokens.specs.declared.Taken.{Taken}
-use Rattle.tokens.specs.declared.words.Kind.{Kind}
 use Rattle.tokens.specs.declared.words.Spelling.{Spelling}
 
 -- a token with its places
-abbrev pub placed : grammar.Token → ℕ → ℕ → Taken
+abbrev pub placed : grammar.Token → ℕ → ℕ → Handed
 placed t place next = handed (kind_of t) (number_of t) place next
 
 -- ---- the key of a word
@@ -66,7 +64,7 @@ module _ (text : List ℕ) (p n : ℕ) where
 
 -- ---- what a word is that begins with no digit
 
-unfoldable pub word_at : List ℕ → ℕ → Taken
+unfoldable pub word_at : List ℕ → ℕ → Handed
 word_at text place = let w = name_at text place in placed (or_label w (find words (map lower w))) place (place + length w)
 
 pub run_every : (t : ℕ → Bool) (l : List ℕ) → every t (take (leading t l) l) ≡ true
@@ -82,10 +80,10 @@ label_known : (w : List ℕ) (x : Option grammar.Token) → both_of (kind_of (or
 label_known w (some t) = refl
 label_known w none = refl
 
-pub word_known : (text : List ℕ) (place : ℕ) (s : Spelling) → s ≡ spelled_at text place → (k : Kind) → k ≡ known_of s.key → handed k.0 k.1 place s.next ≡ word_at text place
+pub word_known : (text : List ℕ) (place : ℕ) (s : Spelling) → s ≡ spelled_at text place → (k : Both) → k ≡ known_of s.key → handed k.kind k.number place s.next ≡ word_at text place
 unfolding word_at spelled_on known_of
 word_known text place s es k ek =
     let w = name_at text place in
     let f : k ≡ known (find words (map lower w)) = ek ∙ ap (λ (x : Spelling). known (find_by words x.key)) es ∙ ap known (sym (find_word w (run_every in_word (drop place text)))) in
-    ap (λ (x : Spelling). handed k.0 k.1 place x.next) es
-    ∙ ap (λ (x : Kind). handed x.0 x.1 place (place + length w)) (f ∙ sym (label_known w (find words (map lower w))))
+    ap (λ (x : Spelling). handed k.kind k.number place x.next) es
+    ∙ ap (λ (x : Both). handed x.kind x.number place (place + length w)) (f ∙ sym (label_known w (find words (map lower w))))

@@ -1,9 +1,10 @@
 // Bytes: blanks, those that make words, digits and signs.
 ghost use Rattle.std.specs.Prelude.{◌≡◌, get_or};
 ghost use Rattle.grammar.specs.Spelling.{blank};
-ghost use Rattle.tokens.specs.Bytes.{folded_of, digit_of, mark_of};
+ghost use Rattle.tokens.specs.Kinds.{kind_number};
+ghost use Rattle.tokens.specs.Bytes.{unless, folded_of, digit_of, mark_of};
 
-use crate::{COLON, COMMA, DOT, LEFT, MINUS, NONE, PLUS, RIGHT, STAR, STRAY};
+use crate::Kind;
 
 // The byte at a place, and 0 past the end.
 pub(crate) fn byte(text: &[u8], at: usize) -> u8
@@ -12,80 +13,52 @@ pub(crate) fn byte(text: &[u8], at: usize) -> u8
     if at < text.len() { text[at] } else { 0 }
 }
 
+#[tactic(auto, unfolding(grammar::specs::Spelling::blank))]
 pub(crate) fn blank(b: u8) -> bool
     ensures { result ≡ blank b }
 {
-    if b == 32 {
-        return true;
-    }
-    if b == 9 {
-        return true;
-    }
-    b == 13
+    matches!(b, b' ' | b'\t' | b'\r')
 }
 
-// A byte of a word, its letter made small; and 0 for any other byte.
-pub fn folded(b: u8) -> u8
-    ensures { result ≡ folded_of b }
+/// A byte of a word, its letter made small.
+#[tactic(auto, unfolding(crate::specs::Bytes::folded_of, grammar::specs::Spelling::in_word, grammar::specs::Spelling::digit, grammar::specs::Spelling::capital, grammar::specs::Spelling::small, grammar::specs::Spelling::lower))]
+pub fn folded(b: u8) -> Option<u8>
+    ensures { result ≡ unless 0 (folded_of b) }
 {
-    if b > 122 {
-        return 0;
+    match b {
+        b'0'..=b'9' | b'a'..=b'z' | b'_' => Some(b),
+        b'A'..=b'Z' => Some(b + 32),
+        _ => None,
     }
-    if b >= 97 {
-        return b;
-    }
-    if b < 48 {
-        return 0;
-    }
-    if b <= 57 {
-        return b;
-    }
-    if b == 95 {
-        return b;
-    }
-    if b < 65 {
-        return 0;
-    }
-    if b <= 90 {
-        return b + 32;
-    }
-    0
 }
 
-// The number of a digit, whose letter is small; and 16 for any other byte.
-pub(crate) fn digit(b: u8) -> u64
-    ensures { result ≡ digit_of b }
+// The number of a digit, whose letter is small.
+#[tactic(auto, unfolding(crate::specs::Bytes::digit_of, grammar::specs::Spelling::digit))]
+pub(crate) fn digit(b: u8) -> Option<u64>
+    ensures { result ≡ unless 16 (digit_of b) }
 {
-    if b < 48 {
-        return 16;
+    match b {
+        b'0'..=b'9' => Some(u64::from(b - b'0')),
+        b'a'..=b'f' => Some(u64::from(b - b'a') + 10),
+        _ => None,
     }
-    if b <= 57 {
-        return (b - 48) as u64;
-    }
-    if b < 97 {
-        return 16;
-    }
-    if b <= 102 {
-        return (b - 87) as u64;
-    }
-    16
 }
 
 // The kind of a byte that is in no word; LF and the semicolon are the end.
-pub(crate) fn mark(b: u8) -> u32
-    ensures { result ≡ mark_of b }
+#[tactic(auto, unfolding(crate::specs::Bytes::mark_of, grammar::specs::Spelling::signs))]
+pub(crate) fn mark(b: u8) -> Kind
+    ensures { kind_number result ≡ mark_of b }
 {
     match b {
-        10 => NONE,
-        59 => NONE,
-        44 => COMMA,
-        58 => COLON,
-        43 => PLUS,
-        45 => MINUS,
-        42 => STAR,
-        46 => DOT,
-        40 => LEFT,
-        41 => RIGHT,
-        _ => STRAY,
+        b'\n' | b';' => Kind::None,
+        b',' => Kind::Comma,
+        b':' => Kind::Colon,
+        b'+' => Kind::Plus,
+        b'-' => Kind::Minus,
+        b'*' => Kind::Star,
+        b'.' => Kind::Dot,
+        b'(' => Kind::Left,
+        b')' => Kind::Right,
+        _ => Kind::Stray,
     }
 }

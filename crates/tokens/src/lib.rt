@@ -6,7 +6,7 @@ mod numbers;
 mod reading;
 mod words;
 
-ghost use Rattle.std.specs.Prelude.{◌≡◌};
+ghost use Rattle.std.specs.Prelude.{◌≡◌, ◌==◌, drop, position};
 ghost use Rattle.grammar.specs.Reading.Lexer.{same};
 ghost use Rattle.grammar.specs.Laws.Runs.{name_at, line_end};
 
@@ -14,70 +14,56 @@ use crate::bytes::byte;
 pub use bytes::folded;
 pub use reading::token;
 
-// The kinds of tokens, the same numbers as in crates/grammar/specs/Reading/Kinds.antt. No token: the line ends.
-pub const NONE: u32 = 0;
+/// What a token is, with the number that crates/grammar/specs/Reading/Kinds.antt gives it; `None` where the line ends.
+#[derive(Clone, Copy, Debug, PartialEq, Eq)]
+pub enum Kind {
+    None = 0,
+    // mnemonics, by the operands that they take: none (Nop and Halt), those of Const and of Bnz, one to three registers
+    Plain,
+    Const,
+    Bnz,
+    One,
+    Two,
+    Three,
+    Register,
+    Name,
+    Number,
+    Comma,
+    Colon,
+    Plus,
+    Minus,
+    Star,
+    Dot,
+    Left,
+    Right,
+    // whatever is none of these
+    Stray,
+}
 
-// Mnemonics, by the operands that they take: none (Nop and Halt), ..
-pub const PLAIN: u32 = 1;
-
-// .. those of Const and those of Bnz, ..
-pub const CONST: u32 = 2;
-
-pub const BNZ: u32 = 3;
-
-// .. one, two or three registers.
-pub const ONE: u32 = 4;
-
-pub const TWO: u32 = 5;
-
-pub const THREE: u32 = 6;
-
-pub const REGISTER: u32 = 7;
-
-pub const NAME: u32 = 8;
-
-pub const NUMBER: u32 = 9;
-
-pub const COMMA: u32 = 10;
-
-pub const COLON: u32 = 11;
-
-pub const PLUS: u32 = 12;
-
-pub const MINUS: u32 = 13;
-
-pub const STAR: u32 = 14;
-
-pub const DOT: u32 = 15;
-
-pub const LEFT: u32 = 16;
-
-pub const RIGHT: u32 = 17;
-
-// Whatever is none of these.
-pub const STRAY: u32 = 18;
-
-// A token as numbers: its kind, the number that goes with it, the place of its first byte and the place behind its last.
-#[derive(Clone, Copy)]
+/// A token: its kind, the number that goes with it, the place of its first byte and the place behind its last.
+#[derive(Clone, Copy, Debug, PartialEq, Eq)]
 pub struct Taken {
-    pub kind: u32,
+    pub kind: Kind,
     pub value: u64,
     pub place: usize,
     pub next: usize,
+}
+
+// How many bytes of the text from a place on stand before the next LF.
+fn to_feed(text: &[u8], at: usize) -> Option<usize>
+    ensures { result ≡ position (λ b. b == 10) (drop at text.now) }
+{
+    text.iter().skip(at).position(|b| *b == b'\n')
 }
 
 // Where the line from a place on ends: at its LF, or behind the text's last byte.
 pub fn line_end(text: &[u8], at: usize) -> usize
     ensures { result ≡ line_end text.now at }
 {
-    let mut p = at;
-    while p < text.len() {
-        if text[p] == 10 {
-            return p;
-        }
-        p += 1;
+    match to_feed(text, at) {
+        Some(passed) => at + passed,
+        None => at.max(text.len()),
     }
-    p
 }
 
 // Whether the words at two places are the same bytes.
@@ -89,8 +75,8 @@ pub fn same_name(text: &[u8], a: usize, b: usize) -> bool
     while p < text.len() {
         let x = byte(text, p);
         let y = byte(text, q);
-        if folded(x) == 0 {
-            return folded(y) == 0;
+        if folded(x).is_none() {
+            return folded(y).is_none();
         }
         if x != y {
             return false;
@@ -98,6 +84,5 @@ pub fn same_name(text: &[u8], a: usize, b: usize) -> bool
         p += 1;
         q += 1;
     }
-    let y = byte(text, q);
-    folded(y) == 0
+    folded(byte(text, q)).is_none()
 }

@@ -1,61 +1,66 @@
 // The next token.
-ghost use Rattle.std.specs.Prelude.{◌≡◌};
+ghost use Rattle.std.specs.Prelude.{◌≡◌, not, drop, position};
+ghost use Rattle.grammar.specs.Spelling.{blank};
+ghost use Rattle.tokens.specs.Kinds.{seen};
 ghost use Rattle.tokens.specs.Streams.{handed, skipped, token_at};
 
 use crate::bytes::{blank, folded, mark};
 use crate::numbers::number;
 use crate::words::word;
-use crate::{NONE, Taken};
+use crate::{Kind, Taken};
+
+// How many blanks stand from a place on, before a byte that is none.
+fn blanks(text: &[u8], at: usize) -> Option<usize>
+    ensures { result ≡ position (λ b. not (blank b)) (drop at text.now) }
+{
+    text.iter().skip(at).position(|b| !blank(*b))
+}
 
 // The first place from `at` on that has no blank.
 fn skip(text: &[u8], at: usize) -> usize
     ensures { result ≡ skipped text.now at }
 {
-    let mut p = at;
-    while p < text.len() {
-        if !blank(text[p]) {
-            return p;
-        }
-        p += 1;
+    match blanks(text, at) {
+        Some(passed) => at + passed,
+        None => at.max(text.len()),
     }
-    p
 }
 
 // No token: the line ends at a place.
 fn ended(place: usize) -> Taken
-    ensures { result ≡ handed 0 0 place place }
+    ensures { seen result ≡ handed 0 0 place place }
 {
     Taken {
-        kind: NONE,
+        kind: Kind::None,
         value: 0,
         place,
         next: place,
     }
 }
 
-// The token from a place on; behind the last one of a line, the kind is NONE.
+// The token from a place on; behind the last one of a line, the kind is `None`.
 pub fn token(text: &[u8], at: usize) -> Taken
-    ensures { result ≡ token_at text.now at }
+    ensures { seen result ≡ token_at text.now at }
 {
     let place = skip(text, at);
     if place >= text.len() {
         return ended(place);
     }
     let b = text[place];
-    if folded(b) == 0 {
-        let kind = mark(b);
-        if kind == NONE {
-            return ended(place);
-        }
-        return Taken {
-            kind,
-            value: 0,
-            place,
-            next: place + 1,
+    if folded(b).is_none() {
+        return match mark(b) {
+            Kind::None => ended(place),
+            kind => Taken {
+                kind,
+                value: 0,
+                place,
+                next: place + 1,
+            },
         };
     }
-    if b <= 57 {
-        return number(text, place);
+    if b <= b'9' {
+        number(text, place)
+    } else {
+        word(text, place)
     }
-    word(text, place)
 }

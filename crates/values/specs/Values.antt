@@ -1,60 +1,73 @@
 -- Values as a sign and a magnitude, or why there is none; and the field that a value goes to.
-use Rattle.std.specs.Prelude.{Bool, false, cond, not, ℕ, ◌+◌, ◌-◌, ◌*◌, ◌%◌, eqb, leb, ltb}
+use Rattle.std.specs.Prelude.{Bool, false, cond, not, ℕ, ◌+◌, ◌-◌, ◌*◌, ◌%◌, eqb, leb, ltb, Result, Ok, Err}
 use Rattle.common.specs.Answers as answer
+use Rattle.answers.specs.Numbers as refusal
+use Rattle.answers.specs.declared.Refusal.{Refusal}
+use Rattle.answers.specs.declared.Refusal.TheVariants.{UnknownLabel, ValueOutside}
 use Rattle.values.specs.declared.Value.{Value}
-use Rattle.values.specs.declared.Fitted.{Fitted}
+
+-- a value, or why there is none
+abbrev pub Checked : Type 0
+Checked = Result Value Refusal
 
 abbrev pub value : Bool → ℕ → Value
-value negative magnitude = record { fault = answer.done; negative = negative; magnitude = magnitude }
+value negative magnitude = record { negative = negative; magnitude = magnitude }
 
-abbrev pub failed : ℕ → Value
-failed fault = record { fault = fault; negative = false; magnitude = 0 }
+abbrev pub opposite : Value → Value
+opposite a = value (not a.negative) a.magnitude
 
--- the fault of what comes of two values: an unknown label is told before a value outside its bounds
-unfoldable pub joined : ℕ → ℕ → ℕ
-joined a b = cond (eqb a answer.done) b (cond (eqb b answer.unknown_label) b a)
+-- two values, or why there are not two: an unknown label is told before a value outside its bounds
+abbrev pub both : Checked → Checked → Result (Value × Value) Refusal
+both (Ok a) (Ok b) = Ok (a, b)
+both (Ok a) (Err f) = Err f
+both (Err e) (Ok b) = Err e
+both (Err e) (Err f) = Err (cond (eqb (refusal.number f) answer.unknown_label) f e)
+
+-- .. and what comes of them
+abbrev pub then : {A B : Type 0} → Result A Refusal → (A → Result B Refusal) → Result B Refusal
+then (Ok a) f = f a
+then (Err e) f = Err e
 
 -- the bounds are -2,147,483,648 and 4,294,967,295
 abbrev pub limit : Bool → ℕ
 limit negative = cond negative 2147483648 4294967295
 
-unfoldable pub judge : ℕ → Bool → ℕ → Value
-judge fault negative magnitude =
-    cond (eqb fault answer.done) (cond (leb magnitude (limit negative)) (value negative magnitude) (failed answer.value_outside)) (failed fault)
+abbrev pub judge : Bool → ℕ → Checked
+judge negative magnitude = cond (leb magnitude (limit negative)) (Ok (value negative magnitude)) (Err ValueOutside)
 
 abbrev pub same : Bool → Bool → Bool
 same a b = cond a b (not b)
 
--- of two numbers with a sign each
-unfoldable pub sum : ℕ → Bool → ℕ → Bool → ℕ → Value
-sum fault a m b n =
-    cond (same a b) (judge fault a (m + n)) (cond (leb n m) (judge fault a (m - n)) (judge fault b (n - m)))
+abbrev pub sum : Value → Value → Checked
+sum a b =
+    cond (same a.negative b.negative) (judge a.negative (a.magnitude + b.magnitude))
+    (cond (leb b.magnitude a.magnitude) (judge a.negative (a.magnitude - b.magnitude)) (judge b.negative (b.magnitude - a.magnitude)))
 
-abbrev pub number : ℕ → Value
-number n = judge answer.done false n
+abbrev pub number : ℕ → Checked
+number n = judge false n
 
-abbrev pub unknown : Value
-unknown = failed answer.unknown_label
+abbrev pub unknown : Checked
+unknown = Err UnknownLabel
 
-unfoldable pub plus : Value → Value → Value
-plus v w = sum (joined v.fault w.fault) v.negative v.magnitude w.negative w.magnitude
+abbrev pub product : Value → Value → Checked
+product a b = judge (not (same a.negative b.negative)) (a.magnitude * b.magnitude)
 
-unfoldable pub minus : Value → Value → Value
-minus v w = sum (joined v.fault w.fault) v.negative v.magnitude (not w.negative) w.magnitude
+unfoldable pub plus : Checked → Checked → Checked
+plus v w = then (both v w) (λ p. sum p.0 p.1)
 
-unfoldable pub times : Value → Value → Value
-times v w = judge (joined v.fault w.fault) (not (same v.negative w.negative)) (v.magnitude * w.magnitude)
+unfoldable pub minus : Checked → Checked → Checked
+minus v w = then (both v w) (λ p. sum p.0 (opposite p.1))
 
-unfoldable pub negated : Value → Value
-negated v = judge v.fault (not v.negative) v.magnitude
+unfoldable pub times : Checked → Checked → Checked
+times v w = then (both v w) (λ p. product p.0 p.1)
+
+unfoldable pub negated : Checked → Checked
+negated v = then v (λ a. judge (not a.negative) a.magnitude)
 
 -- ---- the field that a value goes to
 
-abbrev pub fitted : ℕ → ℕ → Fitted
-fitted answer low = record { answer = answer; low = low }
-
-unfoldable pub refused : ℕ → Fitted
-refused fault = fitted (cond (eqb fault answer.unknown_label) answer.unknown_label answer.value_outside) 0
+abbrev pub refused : Refusal → Refusal
+refused fault = cond (eqb (refusal.number fault) answer.unknown_label) UnknownLabel ValueOutside
 
 -- two's complement in `size` values; the lowest 32 bits of it, where it has more
 abbrev pub complement : ℕ → ℕ → ℕ
@@ -64,11 +77,10 @@ complement size magnitude = (size - magnitude) % 4294967296
 abbrev pub under : Bool → ℕ → Bool
 under negative magnitude = cond negative (ltb 0 magnitude) false
 
-unfoldable pub held : ℕ → ℕ → ℕ → Fitted
-held magnitude most low = cond (leb magnitude most) (fitted answer.done low) (refused answer.value_outside)
+abbrev pub held : ℕ → ℕ → ℕ → Result ℕ Refusal
+held magnitude most low = cond (leb magnitude most) (Ok low) (Err ValueOutside)
 
-unfoldable pub fit : Value → ℕ → ℕ → ℕ → Fitted
-fit v below above size =
-    cond (eqb v.fault answer.done)
-    (cond (under v.negative v.magnitude) (held v.magnitude below (complement size v.magnitude)) (held v.magnitude above v.magnitude))
-    (refused v.fault)
+unfoldable pub fit : Checked → ℕ → ℕ → ℕ → Result ℕ Refusal
+fit (Ok a) below above size =
+    cond (under a.negative a.magnitude) (held a.magnitude below (complement size a.magnitude)) (held a.magnitude above a.magnitude)
+fit (Err fault) below above size = Err (refused fault)

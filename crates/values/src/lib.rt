@@ -4,54 +4,48 @@
 ghost use Rattle.std.specs.Prelude.{◌≡◌};
 ghost use Rattle.values.specs.Values as said;
 
+use answers::Refusal;
+
 // The bounds of every value on the way: -LOWEST to HIGHEST.
 const LOWEST: u64 = 2147483648;
 
 const HIGHEST: u64 = 4294967295;
 
-// Fault 0 and a value; or fault 51 (an unknown label) or 53 (a value on the way is outside its bounds), and no value.
-#[derive(Clone, Copy)]
+/// A whole number.
+// kept: what may not change: the theorems of specs/Integers.antt and edits such as sum_sign_of_less tell of sign and magnitude
+#[derive(Clone, Copy, Debug, PartialEq, Eq)]
 pub struct Value {
-    pub fault: u32,
     pub negative: bool,
     pub magnitude: u32,
 }
 
-// Answer 0 and what the field holds, or answer 51 or 53 and 0.
-#[derive(Clone, Copy)]
-pub struct Fitted {
-    pub answer: u32,
-    pub low: u32,
-}
+impl Value {
+    // The number with the other sign.
+    fn opposite(self) -> Value
+        ensures { result ≡ said.opposite self }
+    {
+        Value {
+            negative: !self.negative,
+            ..self
+        }
+    }
 
-// No value, for this fault.
-fn failed(fault: u32) -> Value
-    ensures { result ≡ said.failed fault }
-{
-    Value {
-        fault,
-        negative: false,
-        magnitude: 0,
+    fn is_below_zero(self) -> bool
+        ensures { result ≡ said.under self.negative self.magnitude }
+    {
+        self.negative && 0 < self.magnitude
     }
 }
 
-// The fault of what comes of two values: an unknown label is told before a value outside its bounds, wherever the two stand.
-fn joined(a: u32, b: u32) -> u32
-    ensures { result ≡ said.joined a b }
+// The two values, or why there are not two: an unknown label is told before a value outside its bounds, wherever the two stand.
+fn both(v: Result<Value, Refusal>, w: Result<Value, Refusal>) -> Result<(Value, Value), Refusal>
+    ensures { result ≡ said.both v w }
 {
-    if a == answers::DONE {
-        return b;
+    match (v, w) {
+        (Ok(a), Ok(b)) => Ok((a, b)),
+        (_, Err(Refusal::UnknownLabel)) => Err(Refusal::UnknownLabel),
+        (Err(fault), _) | (_, Err(fault)) => Err(fault),
     }
-    if b == answers::UNKNOWN_LABEL {
-        return b;
-    }
-    a
-}
-
-fn same(a: bool, b: bool) -> bool
-    ensures { result ≡ said.same a b }
-{
-    if a { b } else { !b }
 }
 
 fn limit(negative: bool) -> u64
@@ -60,96 +54,90 @@ fn limit(negative: bool) -> u64
     if negative { LOWEST } else { HIGHEST }
 }
 
-// A sign and a magnitude, if there is no fault and they are within the bounds.
-fn judge(fault: u32, negative: bool, magnitude: u64) -> Value
-    ensures { result ≡ said.judge fault negative magnitude }
+// A sign and a magnitude, if they are within the bounds.
+fn judge(negative: bool, magnitude: u64) -> Result<Value, Refusal>
+    ensures { result ≡ said.judge negative magnitude }
 {
-    if fault != answers::DONE {
-        return failed(fault);
-    }
     if limit(negative) < magnitude {
-        return failed(answers::VALUE_OUTSIDE);
+        return Err(Refusal::ValueOutside);
     }
-    Value {
-        fault: answers::DONE,
+    Ok(Value {
         negative,
         magnitude: magnitude as u32,
-    }
+    })
 }
 
-// The sum of two numbers with a sign each.
-fn sum(fault: u32, a: bool, m: u32, b: bool, n: u32) -> Value
-    ensures { result ≡ said.sum fault a m b n }
+fn sum(a: Value, b: Value) -> Result<Value, Refusal>
+    ensures { result ≡ said.sum a b }
 {
-    let x = m as u64;
-    let y = n as u64;
-    if same(a, b) {
-        return judge(fault, a, x + y);
+    let m = u64::from(a.magnitude);
+    let n = u64::from(b.magnitude);
+    if a.negative == b.negative {
+        judge(a.negative, m + n)
+    } else if n <= m {
+        judge(a.negative, m - n)
+    } else {
+        judge(b.negative, n - m)
     }
-    if y <= x {
-        return judge(fault, a, x - y);
-    }
-    judge(fault, b, y - x)
 }
 
 // The value of a number, a label or the dot.
-pub fn number(n: u64) -> Value
+pub fn number(n: u64) -> Result<Value, Refusal>
     ensures { result ≡ said.number n }
 {
-    judge(answers::DONE, false, n)
+    judge(false, n)
 }
 
 // The value of a label that no line defines.
-pub fn unknown() -> Value
+pub fn unknown() -> Result<Value, Refusal>
     ensures { result ≡ said.unknown }
 {
-    failed(answers::UNKNOWN_LABEL)
+    Err(Refusal::UnknownLabel)
 }
 
-pub fn plus(v: Value, w: Value) -> Value
+#[tactic(auto, unfolding(crate::specs::Values::plus))]
+pub fn plus(v: Result<Value, Refusal>, w: Result<Value, Refusal>) -> Result<Value, Refusal>
     ensures { result ≡ said.plus v w }
 {
-    let fault = joined(v.fault, w.fault);
-    sum(fault, v.negative, v.magnitude, w.negative, w.magnitude)
+    let (a, b) = both(v, w)?;
+    sum(a, b)
 }
 
-pub fn minus(v: Value, w: Value) -> Value
+#[tactic(auto, unfolding(crate::specs::Values::minus))]
+pub fn minus(v: Result<Value, Refusal>, w: Result<Value, Refusal>) -> Result<Value, Refusal>
     ensures { result ≡ said.minus v w }
 {
-    let fault = joined(v.fault, w.fault);
-    sum(fault, v.negative, v.magnitude, !w.negative, w.magnitude)
+    let (a, b) = both(v, w)?;
+    sum(a, b.opposite())
 }
 
-pub fn times(v: Value, w: Value) -> Value
+#[tactic(auto, unfolding(crate::specs::Values::times))]
+pub fn times(v: Result<Value, Refusal>, w: Result<Value, Refusal>) -> Result<Value, Refusal>
     ensures { result ≡ said.times v w }
 {
-    let fault = joined(v.fault, w.fault);
-    let signs = same(v.negative, w.negative);
-    let m = v.magnitude;
-    let n = w.magnitude;
-    judge(fault, !signs, (m as u64) * (n as u64))
+    let (a, b) = both(v, w)?;
+    let signs_differ = a.negative != b.negative;
+    judge(
+        signs_differ,
+        u64::from(a.magnitude) * u64::from(b.magnitude),
+    )
 }
 
-pub fn negated(v: Value) -> Value
+#[tactic(auto, unfolding(crate::specs::Values::negated))]
+pub fn negated(v: Result<Value, Refusal>) -> Result<Value, Refusal>
     ensures { result ≡ said.negated v }
 {
-    let m = v.magnitude;
-    judge(v.fault, !v.negative, m as u64)
+    let a = v?.opposite();
+    judge(a.negative, u64::from(a.magnitude))
 }
 
-// Nothing for a field, for this fault.
-fn refused(fault: u32) -> Fitted
+// Why a field holds nothing: an unknown label is told, and all else is a value outside.
+fn refused(fault: Refusal) -> Refusal
     ensures { result ≡ said.refused fault }
 {
-    if fault == answers::UNKNOWN_LABEL {
-        return Fitted {
-            answer: answers::UNKNOWN_LABEL,
-            low: 0,
-        };
-    }
-    Fitted {
-        answer: answers::VALUE_OUTSIDE,
-        low: 0,
+    match fault {
+        Refusal::UnknownLabel => fault,
+        _ => Refusal::ValueOutside,
     }
 }
 
@@ -157,46 +145,25 @@ fn refused(fault: u32) -> Fitted
 fn complement(size: u64, magnitude: u32) -> u32
     ensures { result ≡ said.complement size magnitude }
 {
-    let m = magnitude as u64;
-    if size < m {
-        return 0;
-    }
-    ((size - m) % 4294967296) as u32
-}
-
-// Whether a sign and a magnitude say a number below zero.
-fn under(negative: bool, magnitude: u32) -> bool
-    ensures { result ≡ said.under negative magnitude }
-{
-    if negative {
-        return 0 < magnitude;
-    }
-    false
-}
-
-// `low` for a field, if the magnitude is at most `most`.
-fn held(magnitude: u32, most: u32, low: u32) -> Fitted
-    ensures { result ≡ said.held magnitude most low }
-{
-    if most < magnitude {
-        return refused(answers::VALUE_OUTSIDE);
-    }
-    Fitted {
-        answer: answers::DONE,
-        low,
-    }
+    (size.saturating_sub(u64::from(magnitude)) % 4294967296) as u32
 }
 
 // What a value from -below to above is in a field of `size` values, two's complement.
-pub fn fit(v: Value, below: u32, above: u32, size: u64) -> Fitted
+#[tactic(auto, unfolding(crate::specs::Values::fit))]
+pub fn fit(v: Result<Value, Refusal>, below: u32, above: u32, size: u64) -> Result<u32, Refusal>
     ensures { result ≡ said.fit v below above size }
 {
-    let m = v.magnitude;
-    if v.fault != answers::DONE {
-        return refused(v.fault);
+    let a = match v {
+        Ok(a) => a,
+        Err(fault) => return Err(refused(fault)),
+    };
+    let (most, low) = if a.is_below_zero() {
+        (below, complement(size, a.magnitude))
+    } else {
+        (above, a.magnitude)
+    };
+    if most < a.magnitude {
+        return Err(Refusal::ValueOutside);
     }
-    if under(v.negative, m) {
-        return held(m, below, complement(size, m));
-    }
-    held(m, above, m)
+    Ok(low)
 }

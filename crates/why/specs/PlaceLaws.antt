@@ -1,75 +1,22 @@
--- Owners, the bits of a word, and the address to return to, in the forms in which the code comes to them.
-use Rattle.std.specs.Prelude.{◌≡◌, refl, Bool, false, cond, not, ◌&&◌, List, [], ℕ, suc, ◌+◌, ◌-◌, ◌*◌, ◌/◌, ◌%◌, ◌≤◌, ◌<◌, get_or}
+-- The bits of a word that its opcode leaves unused, in the forms in which the code comes to them.
+use Rattle.std.specs.Prelude.{◌≡◌, Bool, ℕ, suc, ◌+◌, ◌-◌, ◌*◌, ◌/◌, ◌%◌, ◌≤◌, ◌<◌}
 use Rattle.std.proofs.Math.Path.{sym, ap}
 use Rattle.std.proofs.Common.{◌∙◌, add-one}
 use Rattle.std.proofs.Math.Bool.{true}
 use Rattle.std.proofs.Math.Nat.{mod-le}
 use native.Mathlib.Omega.{arith}
-use borrow.Author.Tests.{lt-ltb, le-ltb, not-true, not-false}
+use borrow.Author.Tests.{lt-ltb, le-ltb}
 use Rattle.std.proofs.Math.Dec.{ltb}
-use Rattle.common.specs.Instructions.{reg}
-use Rattle.common.specs.Services.{isolate, is_service, service_at}
-use Rattle.common.specs.Words.{row, op_of, a_of, b_of, low_of, pack, Decoded, instruction, decode}
-use Rattle.common.proofs.Laws.WordLaws.{row_small, decoded_small}
+use Rattle.common.specs.Services.{is_service}
+use Rattle.common.specs.Words.{row, op_of, a_of, b_of, low_of, pack, Decoded, instruction}
+use Rattle.common.proofs.Laws.WordLaws.{row_small}
 use Rattle.common.proofs.Laws.ServiceLaws.{service_range}
-use Rattle.rules.specs.State.{State, in_memory, has_owner, owner_at, owns}
 use Rattle.instructions.specs.Masks.{used_of, fields_of}
-use Rattle.reach.specs.Called.{called, asked}
-use Rattle.reach.specs.ReachLaws.{same_owns}
-use Rattle.reasons.specs.Why.{owner_or, no_one, beyond, stray_bits, return_fault, not_own, taken}
+use Rattle.reasons.specs.Why.{beyond, stray_bits}
 
--- ---- who owns x
-
-module _ (n : ℕ) (owners : List ℕ) (x : ℕ) where
-  pub word_owner : (v : ℕ) → v ≡ get_or owners x 0 → x < n → v ≡ owner_at (asked false n owners [] []) x
-  unfolding owner_at in_memory
-  word_owner v e h = e ∙ sym (simp (lt-ltb x n h))
-
-  pub low_owner : n ≤ x → x < 4095 → 0 ≡ owner_at (asked false n owners [] []) x
-  unfolding owner_at in_memory service_at
-  low_owner h l = let z : x - 4095 ≡ 0 = omega arith in sym (simp (le-ltb x n h, z))
-
-  pub service_owner : n ≤ x → x - 4095 ≡ owner_at (asked false n owners [] []) x
-  unfolding owner_at in_memory service_at
-  service_owner h = sym (simp (le-ltb x n h))
-
-  module _ (m : Bool) where
-    pub word_whose : (v : ℕ) → v ≡ get_or owners x 0 → x < n → v ≡ owner_or (asked m n owners [] []) x
-    unfolding owner_or has_owner owner_at in_memory
-    word_whose v e h = e ∙ sym (simp (lt-ltb x n h))
-
-    pub no_ones : n ≤ x → (t : Bool) → t ≡ is_service m x → not t ≡ true → no_one ≡ owner_or (asked m n owners [] []) x
-    unfolding owner_or has_owner in_memory
-    no_ones h t e f = sym (simp (le-ltb x n h, ← e, not-true t f))
-
-    pub services_own : n ≤ x → (t : Bool) → t ≡ is_service m x → not t ≡ false → x - 4095 ≡ owner_or (asked m n owners [] []) x
-    unfolding owner_or has_owner owner_at in_memory service_at
-    services_own h t e f = sym (simp (le-ltb x n h, ← e, not-false t f))
-
-pub service_above : (m : Bool) (x : ℕ) (t : Bool) → t ≡ is_service m x → not t ≡ false → 4096 ≤ x
-service_above m x t e f = (service_range m x (sym e ∙ not-false t f)).0
-
--- ---- 12
-
-module _ (m : Bool) (regs : List ℕ) (n c : ℕ) (owners : List ℕ) where
-  abbrev here : State
-  here = called m regs n c 0 [] [] owners [] [] []
-
-  pub back_outside : n ≤ reg regs 15 → not_own ≡ return_fault here
-  unfolding return_fault in_memory
-  back_outside h = sym (simp (le-ltb (reg regs 15) n h))
-
-  module _ (h : reg regs 15 < n) (t : Bool) (e : t ≡ owns (asked m n owners [] []) c (reg regs 15)) where
-    owned : owns here c (reg regs 15) ≡ t
-    owned = same_owns here (asked m n owners [] []) c (reg regs 15) refl refl refl ∙ sym e
-
-    pub back_others : not t ≡ true → not_own ≡ return_fault here
-    unfolding return_fault in_memory
-    back_others k = sym (simp (lt-ltb (reg regs 15) n h, owned, not-true t k))
-
-    pub back_taken : not t ≡ false → taken ≡ return_fault here
-    unfolding return_fault in_memory
-    back_taken k = sym (simp (lt-ltb (reg regs 15) n h, owned, not-false t k))
+-- no service sits below 4096
+pub service_above : (m : Bool) (x : ℕ) → is_service m x ≡ true → 4096 ≤ x
+service_above m x e = (service_range m x e).0
 
 -- ---- the bits of a word
 
@@ -150,12 +97,3 @@ module _ (word op a b low : ℕ) (e : instruction op a b low ≡ fields_of word)
       where
         sum : (x y z : ℕ) → x * 1048576 + y * 65536 + z ≡ pack 0 x y z
         sum x y z = omega arith
-
--- ---- the register that a word names
-
-module _ (regs : List ℕ) (word answer op a b low : ℕ) (e : record { answer = answer; op = op; a = a; b = b; low = low } ≡ decode word) where
-  pub named_is : get_or regs a 0 ≡ reg regs (decode word).a
-  named_is = ap (λ (d : Decoded). reg regs d.a) e
-
-pub named_small : (word answer op a b low : ℕ) → record { answer = answer; op = op; a = a; b = b; low = low } ≡ decode word → a < 16
-named_small word answer op a b low e = rw (ap (λ (d : Decoded). d.a) e) (decoded_small word).1

@@ -1,63 +1,53 @@
 -- Walks that stop at the first address or pair that does not pass, in the forms in which the code comes to them.
-use Rattle.std.specs.Prelude.{◌≡◌, Bool, cond, ◌&&◌, List, [], ◌∷◌, ltb, get_or, length}
+use Rattle.std.specs.Prelude.{◌≡◌, unwrap_or, Option, Some, None, MatchOption, Bool, List, get_or}
 use Rattle.std.proofs.Math.Path.{refl, sym, ap}
-use Rattle.std.proofs.Common.{◌∙◌, not-suc-le-zero, leb-true}
+use Rattle.std.proofs.Common.{◌∙◌, not-suc-le-zero}
 use Rattle.std.proofs.Math.Bool.{true, false}
-use Prim.Native.Nat.{ℕ, zero, suc, ◌+◌, ◌-◌, ◌*◌, ◌<◌, ◌≤◌}
-use Rattle.std.proofs.Math.Numerals.{add-one}
+use Prim.Native.Nat.{ℕ, zero, suc, ◌+◌, ◌-◌, ◌<◌, ◌≤◌}
 use native.Mathlib.Omega.{arith}
 use Rattle.std.proofs.Math.Decide.{ℕ_discrete}
-use Rattle.common.specs.AddressSets.{Pair, pairs_at, set_at, inside, all_from}
-use Rattle.common.proofs.Laws.Tests.{both, clash}
+use Rattle.common.specs.AddressSets.{Pair, pairs_at, set_at, all_from}
+use Rattle.common.proofs.Laws.Tests.{clash}
 use Rattle.address_sets.specs.SetLaws.{pair_at, Every}
 use Rattle.reasons.specs.First.{first_not, first_pair}
-use Rattle.reasons.specs.Laws.FirstLaws.{First, first_fails, pairs_length}
+use Rattle.reasons.specs.Laws.FirstLaws.{first_fails, pairs_length}
 
 -- ---- addresses
 
-module _ (test : ℕ → Bool) (x past : ℕ) where
-  pub walk_done : past ≤ x → first_not test x (past - x) ≡ x
-  unfolding first_not
-  walk_done h = let e : past - x ≡ 0 = omega arith in simp e
+-- what a walk from `first` on and before `past` finds: the first address that does not pass, or none
+abbrev pub IsFirstNot : (ℕ → Bool) → ℕ → ℕ → Option ℕ → Type 0
+IsFirstNot test first past found =
+    MatchOption found (all_from test first (past - first) ≡ true)
+    (λ x. (all_from test first (past - first) ≡ false) × (x ≡ first_not test first (past - first)))
 
-  at_first : x < past → first_not test x (past - x) ≡ cond (test x) (first_not test (x + 1) (past - (x + 1))) x
-  unfolding first_not
-  at_first h = let e : past - x ≡ suc (past - (x + 1)) = omega arith in ap (first_not test x) e ∙ simp add-one
-
-  pub walk_next : x < past → test x ≡ true → first_not test x (past - x) ≡ first_not test (x + 1) (past - (x + 1))
-  walk_next h e = at_first h ∙ simp e
-
-  pub walk_stops : x < past → test x ≡ false → first_not test x (past - x) ≡ x
-  walk_stops h e = at_first h ∙ simp e
-
-  -- a walk over a pair stops before its end exactly where an address does not pass
-  all_past : (k y : ℕ) → all_from test y k ≡ true → first_not test y k ≡ y + k
+module _ (test : ℕ → Bool) where
+  -- i does not pass, and all before it do
+  first_at : (i k y : ℕ) → y ≤ i → i < y + k → test i ≡ false → ((z : ℕ) → y ≤ z → z < i → test z ≡ true) → (all_from test y k ≡ false) × (i ≡ first_not test y k)
   unfolding all_from first_not
-  all_past zero y h = omega arith
-  all_past (suc k) y h = go (test y) refl (all_past k (suc y))
+  first_at i zero y a b e f = absurd (omega arith)
+  first_at i (suc k) y a b e f = go (ℕ_discrete y i) (first_at i k (suc y))
     where
-      go : (b : Bool) → test y ≡ b → (all_from test (suc y) k ≡ true → first_not test (suc y) k ≡ suc y + k) → first_not test y (suc k) ≡ y + suc k
-      go true e ih = let i : first_not test (suc y) k ≡ suc y + k = ih (simp e at h) in simp e (omega arith)
-      go false e ih = let z : false ≡ true = simp e at h in clash z refl
+      go : Dec (y ≡ i) → (suc y ≤ i → i < suc y + k → test i ≡ false → ((z : ℕ) → suc y ≤ z → z < i → test z ≡ true) → (all_from test (suc y) k ≡ false) × (i ≡ first_not test (suc y) k))
+          → (all_from test y (suc k) ≡ false) × (i ≡ first_not test y (suc k))
+      go (yes s) ih = let z : test y ≡ false = ap test s ∙ e in (simp z, simp z (sym s))
+      go (no s) ih =
+          let z : test y ≡ true = f y (omega arith) (omega arith) in
+          let r = ih (omega arith) (omega arith) e (λ z l u. f z (omega arith) u) in
+          (simp z r.0, simp z r.1)
 
-  pub stopped : (y : ℕ) → y ≡ first_not test x (past - x) → y < past → all_from test x (past - x) ≡ false
-  stopped y e h = go (all_from test x (past - x)) refl
+  none_fails : (x k : ℕ) → ((z : ℕ) → x ≤ z → z < x + k → test z ≡ true) → all_from test x k ≡ true
+  none_fails x k f = go (all_from test x k) refl
     where
-      go : (b : Bool) → all_from test x (past - x) ≡ b → all_from test x (past - x) ≡ false
-      go false f = f
-      go true f = let z : first_not test x (past - x) ≡ x + (past - x) = all_past (past - x) x f in absurd (omega arith)
+      go : (b : Bool) → all_from test x k ≡ b → all_from test x k ≡ true
+      go true e = e
+      go false e = let i = first_fails test k x e in clash (f (first_not test x k) i.from i.below) i.fails
 
-  pub went_through : (y : ℕ) → y ≡ first_not test x (past - x) → past ≤ y → all_from test x (past - x) ≡ true
-  unfolding first_not
-  went_through y e h = go (all_from test x (past - x)) refl
-    where
-      go : (b : Bool) → all_from test x (past - x) ≡ b → all_from test x (past - x) ≡ true
-      go true f = f
-      go false f =
-          let i = first_fails test (past - x) x f in
-          let l : x ≤ first_not test x (past - x) = i.from in
-          let u : first_not test x (past - x) < x + (past - x) = i.below in
-          absurd (omega arith)
+  -- what `find` over the addresses says
+  pub found_first : (first past : ℕ) (r : Option ℕ)
+      → MatchOption r ((k : ℕ) → first ≤ k → k < past → test k ≡ true) (λ i. (first ≤ i) × (i < past) × (test i ≡ false) × ((k : ℕ) → first ≤ k → k < i → test k ≡ true))
+      → IsFirstNot test first past r
+  found_first first past None h = none_fails first (past - first) (λ z l u. h z l (omega arith))
+  found_first first past (Some i) h = let l = h.0 in let u = h.1 in first_at i (past - first) first l (omega arith) h.2 h.3
 
 -- ---- pairs: those before j pass, and pair j does not
 
@@ -85,7 +75,20 @@ module _ {every : List Pair → Bool} {each : Pair → Bool} (law : Every every 
   unfolding set_at
   first_pair_lem j p e h t f = ap (λ (r : Pair). tell r j) e ∙ sym (first_is j (get_or words q 0) h t (ap each (sym e) ∙ f)).0
 
--- a set that is inside ends below n
-pub inside_ends : (words : List ℕ) (n q : ℕ) → inside words n q ≡ true → q + 1 + 2 * get_or words q 0 ≤ n
-unfolding inside
-inside_ends words n q h = leb-true _ _ (both (ltb q n) _ h).1
+  -- the pairs before j pass
+  every_below : (j : ℕ) → ((k : ℕ) → k < j → each (pair_at words (q + 1) k) ≡ true) → every (pairs_at words (q + 1) j) ≡ true
+  unfolding pairs_at
+  every_below zero f = law.none
+  every_below (suc j) f =
+      let t : every (pairs_at words (q + 1) j) ≡ true = every_below j (λ k l. f k (omega arith)) in
+      let h : each (pair_at words (q + 1) j) ≡ true = f j (omega arith) in
+      law.more (pair_at words (q + 1) j) (pairs_at words (q + 1) j) ∙ simp (t, h)
+
+  -- what `find` over the numbers of the pairs says of a set that does not pass
+  pub found_pair : every (set_at words q) ≡ false → (r : Option ℕ)
+      → MatchOption r ((k : ℕ) → 0 ≤ k → k < get_or words q 0 → each (pair_at words (q + 1) k) ≡ true)
+      (λ i. (0 ≤ i) × (i < get_or words q 0) × (each (pair_at words (q + 1) i) ≡ false) × ((k : ℕ) → 0 ≤ k → k < i → each (pair_at words (q + 1) k) ≡ true))
+      → tell (pair_at words (q + 1) (unwrap_or r 0)) (unwrap_or r 0) ≡ first_pair every tell (set_at words q)
+  unfolding set_at
+  found_pair h None f = clash (every_below (get_or words q 0) (λ k l. f k (omega arith) l)) h
+  found_pair h (Some i) f = first_pair_lem i (pair_at words (q + 1) i) refl f.1 (every_below i (λ k l. f.3 k (omega arith) l)) f.2

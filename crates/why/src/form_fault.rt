@@ -1,50 +1,35 @@
 // The first part of the form that is not in order.
 ghost use Rattle.std.specs.Prelude.{◌≡◌};
-ghost use Rattle.why.specs.FormLaws.{fault_by};
+ghost use Rattle.reasons.specs.Why.{form_fault};
+ghost use Rattle.why.specs.Views.{before, form_number};
 
-const LENGTHS: u32 = 1;
+use crate::next_step::NextStep;
 
-const SIZE: u32 = 2;
+#[derive(Clone, Copy)]
+pub(crate) enum FormFault {
+    Lengths = 1,
+    Size = 2,
+    Numbering = 3,
+    Number = 4,
+    Seat = 5,
+}
 
-const NUMBERING: u32 = 3;
-
-const NUMBER: u32 = 4;
-
-const SEAT: u32 = 5;
-
-pub(crate) fn form_fault(
-    strict: bool,
-    n: u32,
-    prev: u32,
-    next: u32,
-    words: usize,
-    owners: usize,
-    jumpers: usize,
-    writers: usize,
-    readers: usize,
-) -> u32
-    ensures { result ≡ fault_by strict n prev next words owners jumpers writers readers }
-{
-    if !form::same_lengths(strict, words, owners, jumpers, writers, readers) {
-        return LENGTHS;
+impl NextStep<'_> {
+    #[tactic(auto, unfolding(reasons::specs::Why::form_fault, rules::specs::Checks::lengths_differ))]
+    pub(crate) fn form_fault(&self) -> FormFault
+        ensures { form_number result ≡ form_fault (before self.now) }
+    {
+        let cpu = &self.cpu;
+        if !self.same_lengths() {
+            FormFault::Lengths
+        } else if cpu.n < 1 || 2048 < cpu.n || self.lent.words.len() < cpu.n as usize {
+            FormFault::Size
+        } else if cpu.next < modes::first_number(cpu.strict) || 64 < cpu.next {
+            FormFault::Numbering
+        } else if cpu.prev < cpu.next {
+            FormFault::Seat
+        } else {
+            FormFault::Number
+        }
     }
-    if n < 1 {
-        return SIZE;
-    }
-    if 2048 < n {
-        return SIZE;
-    }
-    if words < n as usize {
-        return SIZE;
-    }
-    if next < modes::first_number(strict) {
-        return NUMBERING;
-    }
-    if 64 < next {
-        return NUMBERING;
-    }
-    if prev < next {
-        return SEAT;
-    }
-    NUMBER
 }

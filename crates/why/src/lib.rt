@@ -2,32 +2,33 @@
 #![tactic(auto)]
 
 mod form_fault;
+mod next_step;
 mod places;
 mod sets;
 mod verdict;
-mod word_answers;
 
-ghost use Rattle.std.specs.Prelude.{◌≡◌, [], get_or};
-ghost use Rattle.common.specs.AddressSets.{within};
-ghost use Rattle.rules.specs.Checks.{good_in};
-ghost use Rattle.machine.specs.Views.{state_of};
-ghost use Rattle.reach.specs.Called.{called};
-ghost use Rattle.reasons.specs.Why.{told, stray_bits, set_by, may_give, bad_set, wide_set, about_set, about_gift, why};
-ghost use Rattle.reasons.specs.Laws.FirstLaws.{Failing};
-ghost use Rattle.why.specs.Views.{why_of};
+ghost use Rattle.std.specs.Prelude.{◌≡◌};
+ghost use Rattle.rules.specs.Checks.{verdict};
+ghost use Rattle.answers.specs.Numbers.{number};
+ghost use Rattle.reasons.specs.Why.{plain, rows, row_of, why};
+ghost use Rattle.why.specs.Views.{state_by, before, why_of};
 
-use crate::form_fault::form_fault;
-use crate::places::{named, owner_at, owner_or, return_fault, stray_bits};
-use crate::sets::{bad_set, fault_at, out_at, set_fault, wide_set};
-use crate::verdict::verdict;
+use crate::next_step::{NewSet, NextStep};
+use crate::places::stray_bits;
+use crate::verdict::Outcome;
+use answers::Refusal;
 use machine::Processor;
-use memory::word_at;
+use memory::Memories;
 
 // All compartment numbers are used.
 const NUMBERS: u32 = 64;
 
-// What is told; a number that says nothing of an answer is 0 there.
-#[derive(Clone, Copy)]
+// Told in an owner's place where there is none.
+const NO_ONE: u32 = 64;
+
+/// What is told; a number that says nothing of an answer is 0 there.
+// kept: the C interface: kl_why_of hands out these seven numbers, each under the number that C reads there
+#[derive(Clone, Copy, Debug, PartialEq, Eq)]
 pub struct Reason {
     pub answer: u32,
     // 8, 9 and 10: 1 A', 2 J', 3 S', 4 R'
@@ -44,157 +45,127 @@ pub struct Reason {
     pub bits: u32,
 }
 
-fn tell(answer: u32, set: u32, fault: u32, place: u32, owner: u32, value: u32, bits: u32) -> Reason
-    ensures { why_of result ≡ told answer set fault place owner value bits }
-{
-    Reason {
-        answer,
-        set,
-        fault,
-        place,
-        owner,
-        value,
-        bits,
+impl Reason {
+    // An answer of which nothing else is told.
+    fn plain(answer: u32) -> Reason
+        ensures { why_of result ≡ plain answer }
+    {
+        Reason {
+            answer,
+            set: 0,
+            fault: 0,
+            place: 0,
+            owner: 0,
+            value: 0,
+            bits: 0,
+        }
     }
 }
 
-// An address, and who owns it.
-fn tell_owner(answer: u32, fault: u32, place: u32, owner: u32) -> Reason
-    ensures { why_of result ≡ told answer 0 fault place owner 0 0 }
-{
-    tell(answer, 0, fault, place, owner, 0, 0)
-}
-
-// 3 and 16: the word and its bits.
-fn about_word(answer: u32, pc: u32, words: &[u32]) -> Reason
-    ensures { why_of result ≡ told answer 0 0 pc 0 (get_or words.now pc 0) (stray_bits (get_or words.now pc 0)) }
-{
-    let word = word_at(words, pc);
-    tell(answer, 0, 0, pc, 0, word, stray_bits(word))
-}
-
-// 8: which set, which of its words.
-fn about_set(
-    regs: &[u32; 16],
-    strict: bool,
-    n: u32,
-    caller: u32,
-    words: &[u32],
-    owners: &[u32],
-    readers: &[u64],
-) -> Reason
-    requires { Failing strict (good_in (called strict regs.now n caller 0 [] words.now owners.now [] [] readers.now) caller) (bad_set (called strict regs.now n caller 0 [] words.now owners.now [] [] readers.now)) }
-    ensures { why_of result ≡ about_set (called strict regs.now n caller 0 [] words.now owners.now [] [] readers.now) (bad_set (called strict regs.now n caller 0 [] words.now owners.now [] [] readers.now)) }
-{
-    let set = bad_set(regs, strict, n, caller, words, owners, readers);
-    let q = regs[set as usize];
-    let fault = set_fault(words, n, q);
-    let place = fault_at(words, q, strict, n, caller, owners, readers);
-    tell(
-        answers::BAD_SET,
-        set,
-        fault,
-        place,
-        0,
-        word_at(words, place),
-        0,
-    )
-}
-
-// 10: which set, which address, who owns it.
-fn about_gift(
-    regs: &[u32; 16],
-    strict: bool,
-    n: u32,
-    caller: u32,
-    services: &[u64],
-    words: &[u32],
-    owners: &[u32],
-    jumpers: &[u64],
-    writers: &[u64],
-    readers: &[u64],
-) -> Reason
-    requires { Failing strict (λ i. within (set_by (called strict regs.now n caller 0 services.now words.now owners.now jumpers.now writers.now readers.now) i) (may_give (called strict regs.now n caller 0 services.now words.now owners.now jumpers.now writers.now readers.now) caller i)) (wide_set (called strict regs.now n caller 0 services.now words.now owners.now jumpers.now writers.now readers.now)) }
-    ensures { why_of result ≡ about_gift (called strict regs.now n caller 0 services.now words.now owners.now jumpers.now writers.now readers.now) (wide_set (called strict regs.now n caller 0 services.now words.now owners.now jumpers.now writers.now readers.now)) }
-{
-    let set = wide_set(
-        regs, strict, n, caller, services, words, owners, jumpers, writers,
-    );
-    let place = out_at(
-        set, regs, strict, n, caller, services, words, owners, jumpers, writers, readers,
-    );
-    tell(
-        answers::NOT_WITHIN,
-        set,
-        0,
-        place,
-        owner_or(strict, n, owners, place),
-        0,
-        0,
-    )
+impl NextStep<'_> {
+    // What is told of a refusal that is the step's.
+    #[tactic(auto, unfolding(reasons::specs::Why::row_of, reasons::specs::Why::rows))]
+    fn reason(&self, refusal: Refusal) -> Reason
+        requires { number refusal ≡ verdict (before self.now) }
+        ensures { why_of result ≡ row_of (number refusal) (rows (before self.now)) }
+    {
+        let cpu = &self.cpu;
+        let plain = Reason::plain(u32::from(refusal));
+        match refusal {
+            Refusal::NoPlace => Reason {
+                place: cpu.pc,
+                ..plain
+            },
+            Refusal::NoInstruction | Refusal::StrayBit => {
+                let value = self.word_at(cpu.pc);
+                Reason {
+                    place: cpu.pc,
+                    value,
+                    bits: stray_bits(value),
+                    ..plain
+                }
+            }
+            Refusal::NoArrival => Reason {
+                place: cpu.pc,
+                owner: self.owner_at(cpu.pc),
+                ..plain
+            },
+            Refusal::LoadOutside | Refusal::StoreOutside => Reason {
+                place: self.named(),
+                value: cpu.n,
+                ..plain
+            },
+            Refusal::StoreForbidden | Refusal::LoadForbidden => {
+                let place = self.named();
+                Reason {
+                    place,
+                    owner: memory::word_at(self.lent.owners, place),
+                    ..plain
+                }
+            }
+            Refusal::BadSet => {
+                let set = self.bad_set();
+                let (fault, place) = self.set_fault(&self.set_at(self.pointer(set)));
+                Reason {
+                    set: set as u32,
+                    fault: fault as u32,
+                    place,
+                    value: self.word_at(place),
+                    ..plain
+                }
+            }
+            Refusal::EmptySet => Reason {
+                set: NewSet::Owned as u32,
+                place: self.pointer(NewSet::Owned),
+                ..plain
+            },
+            Refusal::NotWithin => {
+                let set = self.wide_set();
+                let place = self.out_at(set);
+                Reason {
+                    set: set as u32,
+                    place,
+                    owner: self.owner(place).unwrap_or(NO_ONE),
+                    ..plain
+                }
+            }
+            Refusal::NotOwned => Reason {
+                place: cpu.regs[1],
+                owner: self.owner(cpu.regs[1]).unwrap_or(NO_ONE),
+                ..plain
+            },
+            Refusal::NoReturn => Reason {
+                fault: self.return_fault() as u32,
+                place: cpu.regs[15],
+                owner: self.owner(cpu.regs[15]).unwrap_or(NO_ONE),
+                ..plain
+            },
+            Refusal::NoNumber => Reason {
+                value: NUMBERS,
+                ..plain
+            },
+            Refusal::BadForm => Reason {
+                fault: self.form_fault() as u32,
+                ..plain
+            },
+            Refusal::BadOwner => Reason {
+                place: cpu.pc,
+                owner: memory::word_at(self.lent.owners, cpu.pc),
+                ..plain
+            },
+            _ => plain,
+        }
+    }
 }
 
 // What a step of this state would answer, and why.
-pub fn why(
-    cpu: Processor,
-    words: &[u32],
-    owners: &[u32],
-    jumpers: &[u64],
-    writers: &[u64],
-    readers: &[u64],
-) -> Reason
-    ensures { why_of result ≡ why (state_of cpu words.now owners.now jumpers.now writers.now readers.now) }
+pub fn why(cpu: Processor, lent: &Memories) -> Reason
+    ensures { why_of result ≡ why (state_by cpu lent.now) }
 {
-    let answer = verdict(cpu, words, owners, jumpers, writers, readers);
-    let n = cpu.n;
-    let pc = cpu.pc;
-    let prev = cpu.prev;
-    let strict = cpu.strict;
-    let regs = cpu.regs;
-    let services = cpu.services;
-    let x = named(&regs, word_at(words, pc));
-    match answer {
-        answers::NO_PLACE => tell_owner(answer, 0, pc, 0),
-        answers::NO_INSTRUCTION => about_word(answer, pc, words),
-        answers::STRAY_BIT => about_word(answer, pc, words),
-        answers::NO_ARRIVAL => tell_owner(answer, 0, pc, owner_at(n, owners, pc)),
-        answers::LOAD_OUTSIDE => tell(answer, 0, 0, x, 0, n, 0),
-        answers::STORE_OUTSIDE => tell(answer, 0, 0, x, 0, n, 0),
-        answers::STORE_FORBIDDEN => tell_owner(answer, 0, x, word_at(owners, x)),
-        answers::LOAD_FORBIDDEN => tell_owner(answer, 0, x, word_at(owners, x)),
-        answers::BAD_SET => about_set(&regs, strict, n, prev, words, owners, readers),
-        answers::EMPTY_SET => tell(answer, 1, 0, regs[1], 0, 0, 0),
-        answers::NOT_WITHIN => about_gift(
-            &regs, strict, n, prev, &services, words, owners, jumpers, writers, readers,
-        ),
-        answers::NOT_OWNED => {
-            tell_owner(answer, 0, regs[1], owner_or(strict, n, owners, regs[1]))
-        }
-        answers::NO_RETURN => {
-            let fault = return_fault(&regs, strict, n, prev, owners);
-            tell_owner(
-                answer,
-                fault,
-                regs[15],
-                owner_or(strict, n, owners, regs[15]),
-            )
-        }
-        answers::NO_NUMBER => tell(answer, 0, 0, 0, 0, NUMBERS, 0),
-        answers::BAD_FORM => {
-            let fault = form_fault(
-                strict,
-                n,
-                prev,
-                cpu.next,
-                words.len(),
-                owners.len(),
-                jumpers.len(),
-                writers.len(),
-                readers.len(),
-            );
-            tell_owner(answer, fault, 0, 0)
-        }
-        answers::BAD_OWNER => tell_owner(answer, 0, pc, word_at(owners, pc)),
-        _ => tell_owner(answer, 0, 0, 0),
+    let step = NextStep { cpu, lent: *lent };
+    match step.verdict() {
+        Ok(Outcome::Done) => Reason::plain(answers::DONE),
+        Ok(Outcome::Halt) => Reason::plain(answers::HALT),
+        Err(refusal) => step.reason(refusal),
     }
 }

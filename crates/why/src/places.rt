@@ -1,48 +1,58 @@
-// The word at pc and its bits, the address that it names, who owns an address, and what is wrong with the one to return to.
-ghost use Rattle.std.specs.Prelude.{◌≡◌, [], ◌<◌, get_or, false};
+// Who owns an address, what is wrong with the one to return to, and the bits of a word that its opcode leaves unused.
+ghost use Rattle.std.specs.Prelude.{◌≡◌, ◌<◌, unwrap_or};
 ghost use Rattle.rules.specs.State.{owner_at};
-ghost use Rattle.common.specs.Instructions.{reg};
-ghost use Rattle.common.specs.Words.{decode};
-ghost use Rattle.reach.specs.Called.{called, asked};
-ghost use Rattle.reasons.specs.Why.{owner_or, beyond, stray_bits, return_fault};
+ghost use Rattle.reasons.specs.Why.{owner_or, no_one, beyond, stray_bits, return_fault};
+ghost use Rattle.why.specs.Views.{before, return_number};
 
-use memory::word_at;
+use crate::next_step::NextStep;
 
 // The address before the services, which are owned by the compartments from 1 on.
 const BEFORE: u32 = modes::ISOLATE - 1;
 
-// Told in an owner's place where there is none.
-const NO_ONE: u32 = 64;
-
-// The faults of 12.
-const NOT_OWN: u32 = 1;
-
-const TAKEN: u32 = 2;
-
-// The owner of a word, or the number of the service at x.
-pub(crate) fn owner_at(n: u32, owners: &[u32], x: u32) -> u32
-    ensures { result ≡ owner_at (asked false n owners.now [] []) x }
-{
-    if x < n {
-        return word_at(owners, x);
-    }
-    if x < BEFORE {
-        return 0;
-    }
-    x - BEFORE
+// What is wrong with the address to return to.
+#[derive(Clone, Copy)]
+pub(crate) enum ReturnFault {
+    NotOwn = 1,
+    Taken = 2,
 }
 
-// Who owns x: a word's owner, a service's own number, or 64.
-pub(crate) fn owner_or(strict: bool, n: u32, owners: &[u32], x: u32) -> u32
-    ensures { result ≡ owner_or (asked strict n owners.now [] []) x }
-{
-    if x < n {
-        return word_at(owners, x);
+impl NextStep<'_> {
+    // The owner of a word, or the number of the service at x.
+    #[tactic(auto, unfolding(rules::specs::State::owner_at, rules::specs::State::in_memory, common::specs::Services::service_at))]
+    pub(crate) fn owner_at(&self, x: u32) -> u32
+        ensures { result ≡ owner_at (before self.now) x }
+    {
+        if x < self.cpu.n {
+            memory::word_at(self.lent.owners, x)
+        } else {
+            x.saturating_sub(BEFORE)
+        }
     }
-    if !modes::is_service(strict, x) {
-        return NO_ONE;
+
+    // Who owns x, if it is a word or a service.
+    #[tactic(auto, unfolding(reasons::specs::Why::owner_or, rules::specs::State::has_owner, rules::specs::State::in_memory))]
+    pub(crate) fn owner(&self, x: u32) -> Option<u32>
+        ensures { unwrap_or result no_one ≡ owner_or (before self.now) x }
+    {
+        if x < self.cpu.n || modes::is_service(self.cpu.strict, x) {
+            Some(self.owner_at(x))
+        } else {
+            None
+        }
     }
-    x - BEFORE
+
+    // Whether the caller would return to a word of its own, which A' then takes.
+    #[tactic(auto, unfolding(reasons::specs::Why::return_fault, rules::specs::State::in_memory))]
+    pub(crate) fn return_fault(&self) -> ReturnFault
+        ensures { return_number result ≡ return_fault (before self.now) }
+    {
+        let back = self.cpu.regs[15];
+        if back < self.cpu.n && self.owns(back) {
+            ReturnFault::Taken
+        } else {
+            ReturnFault::NotOwn
+        }
+    }
 }
 
 // What of a field is above its largest value.
@@ -67,33 +77,4 @@ pub(crate) fn stray_bits(word: u32) -> u32
     let b = beyond(i.b, used / 65536 % 16);
     let low = beyond(i.low, used % 65536);
     a * 1048576 + b * 65536 + low
-}
-
-// The address in the register that the word names first.
-pub(crate) fn named(regs: &[u32; 16], word: u32) -> u32
-    ensures { result ≡ reg regs.now (decode word).a }
-{
-    let d = instructions::decode(word);
-    let i = d.a as usize;
-    if i < 16 { regs[i] } else { 0 }
-}
-
-// Whether the caller would return to a word of its own, which A' then takes.
-pub(crate) fn return_fault(
-    regs: &[u32; 16],
-    strict: bool,
-    n: u32,
-    caller: u32,
-    owners: &[u32],
-) -> u32
-    ensures { result ≡ return_fault (called strict regs.now n caller 0 [] [] owners.now [] [] []) }
-{
-    let back = regs[15];
-    if back >= n {
-        return NOT_OWN;
-    }
-    if !reach::owns(strict, n, caller, owners, back) {
-        return NOT_OWN;
-    }
-    TAKEN
 }

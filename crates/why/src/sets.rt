@@ -1,212 +1,113 @@
 // Which of the caller's sets is at fault, and where: 8 and 10.
-ghost use Rattle.std.specs.Prelude.{◌≡◌, false, true, [], ◌-◌, ◌+◌, ◌*◌};
-ghost use Rattle.common.specs.AddressSets.{set_at, inside, ordered, good_set, within};
+ghost use Rattle.std.specs.Prelude.{◌≡◌, Bool, false, ℕ, ◌<◌};
+ghost use Rattle.common.specs.AddressSets.{ordered, good_set, within};
 ghost use Rattle.rules.specs.State.{reads};
-ghost use Rattle.reach.specs.Called.{called, asked, reading, reaches};
-ghost use Rattle.reasons.specs.First.{first_not, first_out, first_disordered};
+ghost use Rattle.reasons.specs.First.{first_disordered, first_set};
 ghost use Rattle.reasons.specs.Why.{set_fault, fault_at, bad_set, wide_set, out_at, set_by, may_give};
 ghost use Rattle.reasons.specs.Laws.FirstLaws.{Failing};
+ghost use Rattle.address_sets.specs.SetLaws.{set_of};
+ghost use Rattle.why.specs.Views.{before, set_number, fault_number};
+ghost use Rattle.why.specs.Giving.{gives};
+ghost use Rattle.why.specs.WalkLaws.{IsFirstNot};
 
-use address_sets::{Pair, in_order, pair_at};
-use memory::word_at;
-use reach::walk::{reaches, within};
+use crate::next_step::{NewSet, NextStep};
+use address_sets::AddressSet;
 
-// The faults of 8.
-const OUTSIDE: u32 = 1;
+// What is wrong with a set.
+#[derive(Clone, Copy)]
+pub(crate) enum SetFault {
+    Outside = 1,
+    Disordered = 2,
+    Unreadable = 3,
+}
 
-const DISORDERED: u32 = 2;
-
-const UNREADABLE: u32 = 3;
-
-// The first address of the pair that the caller does not reach, or the one behind them. Nobody reaches an address that is neither a word
-// nor a service, so no walk is longer than memory.
-fn first_not(
-    pair: Pair,
-    strict: bool,
-    n: u32,
-    caller: u32,
-    owners: &[u32],
-    sets: &[u64],
-    services: &[u64],
-) -> u32
-    ensures { result ≡ first_not (reaches (asked strict n owners.now sets.now services.now) caller) pair.first (pair.past - pair.first) }
+// The first of A', J' and S' that does not pass; R' where all three do.
+#[tactic(auto, unfolding(reasons::specs::First::first_set))]
+fn first_set<F: Fn(NewSet) -> bool>(passes: F) -> NewSet
+    requires { F.IsAlwaysCallable passes }
+    ensures { (test : ℕ → Bool) → ((set : _) (r : Bool) → set_number set < 4 → F.post passes set r → r ≡ test (set_number set)) → set_number result ≡ first_set test }
 {
-    let past = pair.past;
-    let mut x = pair.first;
-    while x < past {
-        if !reaches(strict, n, caller, owners, sets, services, x) {
-            return x;
+    if !passes(NewSet::Owned) {
+        NewSet::Owned
+    } else if !passes(NewSet::Jump) {
+        NewSet::Jump
+    } else if !passes(NewSet::Store) {
+        NewSet::Store
+    } else {
+        NewSet::Read
+    }
+}
+
+// How many pairs of a set stand before the first that has first >= past; there is one.
+fn first_disordered(set: &AddressSet) -> u32
+    requires { ordered (set_of set.now) ≡ false }
+    ensures { result ≡ first_disordered (set_of set.now) }
+{
+    let disordered = (0..set.count()).find(|&j| {
+        let pair = set.pair(j);
+        pair.past <= pair.first
+    });
+    disordered.unwrap_or(0)
+}
+
+impl NextStep<'_> {
+    // The first set that is not good.
+    pub(crate) fn bad_set(&self) -> NewSet
+        ensures { set_number result ≡ bad_set (before self.now) }
+    {
+        first_set(|set| self.is_good(set))
+    }
+
+    // The first set that the caller may not give as a whole.
+    pub(crate) fn wide_set(&self) -> NewSet
+        ensures { set_number result ≡ wide_set (before self.now) }
+    {
+        first_set(|set| self.gives_all(set))
+    }
+
+    // The first address from `first` on and before `past` that the caller may not give away in a set. It may give away no address that is
+    // neither a word nor a service, so no walk is longer than memory.
+    fn first_not(&self, set: NewSet, first: u32, past: u32) -> Option<u32>
+        ensures { IsFirstNot (gives set (before self.now)) first past result }
+    {
+        (first..past).find(|&x| !self.gives(set, x))
+    }
+
+    // The first address of a set that the caller may not give away in it; there is one.
+    pub(crate) fn out_at(&self, set: NewSet) -> u32
+        requires { Failing self.now.cpu.strict (λ i. within (set_by (before self.now) i) (may_give (before self.now) self.now.cpu.prev i)) (set_number set) }
+        ensures { result ≡ out_at (before self.now) self.now.cpu.prev (set_number set) }
+    {
+        let given = self.set_at(self.pointer(set));
+        for j in 0..given.count() {
+            let pair = given.pair(j);
+            if let Some(x) = self.first_not(set, pair.first, pair.past) {
+                return x;
+            }
         }
-        x += 1;
+        0
     }
-    x
-}
 
-// The first address of the set at q that the caller does not reach; there is one.
-fn first_out(
-    words: &[u32],
-    q: u32,
-    strict: bool,
-    n: u32,
-    caller: u32,
-    owners: &[u32],
-    sets: &[u64],
-    services: &[u64],
-) -> u32
-    requires { within (set_at words.now q) (reaches (asked strict n owners.now sets.now services.now) caller) ≡ false }
-    ensures { result ≡ first_out (reaches (asked strict n owners.now sets.now services.now) caller) (set_at words.now q) }
-{
-    let k = word_at(words, q);
-    let mut j = 0;
-    while j < k {
-        let pair = pair_at(words, q, j);
-        let x = first_not(pair, strict, n, caller, owners, sets, services);
-        if x < pair.past {
-            return x;
+    // What is wrong with a set that is not good, and its first word that is at fault.
+    pub(crate) fn set_fault(&self, set: &AddressSet) -> (SetFault, u32)
+        requires { good_set set.now.words.now self.now.cpu.n (reads (before self.now) self.now.cpu.prev) set.now.at ≡ false }
+        ensures fault { fault_number result.0 ≡ set_fault set.now.words.now self.now.cpu.n set.now.at }
+        ensures place { result.1 ≡ fault_at set.now.words.now self.now.cpu.n (reads (before self.now) self.now.cpu.prev) set.now.at }
+    {
+        let n = self.cpu.n;
+        let q = set.at;
+        if n <= q {
+            return (SetFault::Outside, q);
         }
-        j += 1;
-    }
-    0
-}
-
-// Where the first pair of the set at q stands that has first >= past; there is one.
-fn wrong_pair(words: &[u32], n: u32, q: u32) -> u32
-    requires whole { inside words.now n q ≡ true }
-    requires disordered { ordered (set_at words.now q) ≡ false }
-    ensures { result ≡ q + 1 + 2 * first_disordered (set_at words.now q) }
-{
-    let k = word_at(words, q);
-    let mut j = 0;
-    while j < k {
-        let pair = pair_at(words, q, j);
-        if pair.first >= pair.past {
-            return q + 1 + 2 * j;
+        let k = set.count();
+        if (n - q - 1) / 2 < k {
+            return (SetFault::Outside, n);
         }
-        j += 1;
-    }
-    0
-}
-
-// What is wrong with the set at q.
-pub(crate) fn set_fault(words: &[u32], n: u32, q: u32) -> u32
-    ensures { result ≡ set_fault words.now n q }
-{
-    if q >= n {
-        return OUTSIDE;
-    }
-    if word_at(words, q) > (n - q - 1) / 2 {
-        return OUTSIDE;
-    }
-    if !in_order(words, n, q) {
-        return DISORDERED;
-    }
-    UNREADABLE
-}
-
-// The first word of the set at q that is at fault.
-pub(crate) fn fault_at(
-    words: &[u32],
-    q: u32,
-    strict: bool,
-    n: u32,
-    caller: u32,
-    owners: &[u32],
-    readers: &[u64],
-) -> u32
-    requires { good_set words.now n (reads (reading strict n owners.now readers.now) caller) q ≡ false }
-    ensures { result ≡ fault_at words.now n (reads (reading strict n owners.now readers.now) caller) q }
-{
-    if q >= n {
-        return q;
-    }
-    let k = word_at(words, q);
-    if k > (n - q - 1) / 2 {
-        return n;
-    }
-    if !in_order(words, n, q) {
-        return wrong_pair(words, n, q);
-    }
-    let none = &readers[..0];
-    let pair = Pair {
-        first: q,
-        past: q + 1 + 2 * k,
-    };
-    first_not(pair, strict, n, caller, owners, readers, none)
-}
-
-// The first set that is not good.
-pub(crate) fn bad_set(
-    regs: &[u32; 16],
-    strict: bool,
-    n: u32,
-    caller: u32,
-    words: &[u32],
-    owners: &[u32],
-    readers: &[u64],
-) -> u32
-    ensures { result ≡ bad_set (called strict regs.now n caller 0 [] words.now owners.now [] [] readers.now) }
-{
-    if !reach::good(words, regs[1], strict, n, caller, owners, readers) {
-        return 1;
-    }
-    if !reach::good(words, regs[2], strict, n, caller, owners, readers) {
-        return 2;
-    }
-    if !reach::good(words, regs[3], strict, n, caller, owners, readers) {
-        return 3;
-    }
-    4
-}
-
-// The first set that the caller may not give as a whole.
-pub(crate) fn wide_set(
-    regs: &[u32; 16],
-    strict: bool,
-    n: u32,
-    caller: u32,
-    services: &[u64],
-    words: &[u32],
-    owners: &[u32],
-    jumpers: &[u64],
-    writers: &[u64],
-) -> u32
-    ensures { result ≡ wide_set (called strict regs.now n caller 0 services.now words.now owners.now jumpers.now writers.now []) }
-{
-    let none = &services[..0];
-    if !within(words, regs[1], strict, n, caller, owners, none, none) {
-        return 1;
-    }
-    if !within(words, regs[2], strict, n, caller, owners, jumpers, services) {
-        return 2;
-    }
-    if !within(words, regs[3], strict, n, caller, owners, writers, none) {
-        return 3;
-    }
-    4
-}
-
-// The first address of set r that the caller may not give.
-pub(crate) fn out_at(
-    r: u32,
-    regs: &[u32; 16],
-    strict: bool,
-    n: u32,
-    caller: u32,
-    services: &[u64],
-    words: &[u32],
-    owners: &[u32],
-    jumpers: &[u64],
-    writers: &[u64],
-    readers: &[u64],
-) -> u32
-    requires { Failing strict (λ i. within (set_by (called strict regs.now n caller 0 services.now words.now owners.now jumpers.now writers.now readers.now) i) (may_give (called strict regs.now n caller 0 services.now words.now owners.now jumpers.now writers.now readers.now) caller i)) r }
-    ensures { result ≡ out_at (called strict regs.now n caller 0 services.now words.now owners.now jumpers.now writers.now readers.now) caller r }
-{
-    let none = &services[..0];
-    match r {
-        1 => first_out(words, regs[1], strict, n, caller, owners, none, none),
-        2 => first_out(words, regs[2], strict, n, caller, owners, jumpers, services),
-        3 => first_out(words, regs[3], strict, n, caller, owners, writers, none),
-        _ => first_out(words, regs[4], strict, n, caller, owners, readers, none),
+        if !set.is_in_order(n) {
+            let j = first_disordered(set);
+            return (SetFault::Disordered, q + 1 + 2 * j);
+        }
+        let unread = self.first_not(NewSet::Read, q, q + 1 + 2 * k);
+        (SetFault::Unreadable, unread.unwrap_or(q))
     }
 }

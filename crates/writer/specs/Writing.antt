@@ -1,12 +1,15 @@
 -- The writer's returns, in the form in which the code comes to them.
 use Rattle.std.specs.Prelude.{◌≡◌, ◌&&◌, ℕ, ◌+◌, ◌*◌, ◌≤◌, ◌<◌, ltb, length}
-use Rattle.std.proofs.Common.{sym, ◌∙◌, arith, take_all}
+use Rattle.std.proofs.Common.{sym, ◌∙◌, arith}
 use Rattle.std.proofs.Math.Path.{ap}
 use mathlib.Core.List.{List, [], ◌∷◌, ◌++◌}
 use borrow.Author.Tests.{leb-true, lt-ltb, le-ltb, le-leb, lt-leb, ne_eqb}
 use Rattle.std.proofs.Math.Dec.{leb}
 use Rattle.std.proofs.Math.ListN.{take, length-append}
 use Rattle.std.proofs.Math.Seq.{sets}
+use Rattle.answers.specs.declared.Refusal.{Refusal}
+use Rattle.answers.specs.Numbers.{number}
+use Rattle.answers.specs.Results.{number-not-0}
 use Rattle.common.specs.Answers as answer
 use Rattle.common.specs.Tables.{first_of}
 use Rattle.common.proofs.Laws.Tests.{both}
@@ -51,44 +54,46 @@ module _ (words regs : List ℕ) (entry : ℕ) (out : List ℕ) where
 
 -- ---- the image
 
--- the code's verdict, places and lists are as the rules say
-module _ (words regs : List ℕ) (entry : ℕ) (out : List ℕ) (v : ℕ) (e : v ≡ write_verdict words regs entry out) where
+module _ (words regs : List ℕ) (entry : ℕ) (out : List ℕ) where
   -- a refusal leaves the buffer
-  pub refuses : (v ≡ 0 → ⊥) → record { answer = v; length = 0; out = out } ≡ write words regs entry out
+  pub refuses : (r : Refusal) → number r ≡ write_verdict words regs entry out → record { answer = number r; length = 0; out = out } ≡ write words regs entry out
   unfolding write
-  refuses ne = simp (ne_eqb (write_verdict words regs entry out) 0 (λ z. ne (e ∙ z)), e)
+  refuses r e = simp (ne_eqb (write_verdict words regs entry out) 0 (λ z. number-not-0 r (e ∙ z)), e)
 
-  module _ (z : v ≡ 0) where
+  module _ (z : answer.done ≡ write_verdict words regs entry out) where
     pub fits : (length words ≤ 2048) × (length (image_bytes words regs entry) ≤ length out)
     unfolding write_verdict write_checks first_of
     fits =
-        let size = passed (leb 1 (length words) && leb (length words) 2048) _ 21 (omega arith) (sym e ∙ z) in
+        let size = passed (leb 1 (length words) && leb (length words) 2048) _ 21 (omega arith) (sym z) in
         let entry_in = passed (ltb entry (length words)) _ 25 (omega arith) size.1 in
         let room = passed (leb (length (image_bytes words regs entry)) (length out)) _ 31 (omega arith) entry_in.1 in
         (leb-true _ _ (both (leb 1 (length words)) _ size.0).1, leb-true _ _ room.0)
 
     pub writes : (n : ℕ) (three : List ℕ) → n ≡ length (image_bytes words regs entry) → three ≡ over (image_bytes words regs entry) out
-        → record { answer = v; length = n; out = three } ≡ write words regs entry out
+        → record { answer = answer.done; length = n; out = three } ≡ write words regs entry out
     unfolding write
-    writes n three ln lo = simp (sym e ∙ z, z, ln, lo)
+    writes n three ln lo = simp (sym z, ln, lo)
 
 -- three sections, each where the one before ends
-module _ (words regs : List ℕ) (entry : ℕ) (out : List ℕ) (k : ℕ) (e : k ≡ length (listed regs)) (p q r : ℕ) (ep : p ≡ 0 + 4 + 4 * length words) (eq : q ≡ p + 4 + 4 * k) (er : r ≡ q + 4 + 4 * 1) where
-  pub image_length : r ≡ length (image_bytes words regs entry)
-  image_length = let l = length_image words regs entry in omega arith
+module _ (words regs : List ℕ) (entry : ℕ) (out : List ℕ) (k : ℕ) (e : k ≡ length (listed regs)) where
+  pub registers : take k regs ≡ listed regs
+  registers = ap (λ (x : ℕ). take x regs) e ∙ listed_take regs
 
-  pub image_stored : length (image_bytes words regs entry) ≤ length out → (one two three : List ℕ)
-      → one ≡ sets out 0 (section (take (length words) words)) → two ≡ sets one p (section (take k regs))
-      → three ≡ sets two q (section (entry ∷ []))
-      → three ≡ over (image_bytes words regs entry) out
-  unfolding image_bytes
-  image_stored fits one two three e1 e2 e3 =
-      let w = length_section words in
-      let f = length_section (listed regs) in
-      let a = length-append (section words) (section (listed regs)) in
-      let t : take k regs ≡ listed regs = ap (λ (x : ℕ). take x regs) e ∙ listed_take regs in
-      let one' : one ≡ sets out 0 (section words) = e1 ∙ ap (λ (x : List ℕ). sets out 0 (section x)) (take_all (length words) words (omega arith)) in
-      let two' : two ≡ sets out 0 (section words ++ section (listed regs)) = e2 ∙ ap (λ (x : List ℕ). sets x p (section (take k regs))) one' ∙ ap (λ (x : List ℕ). sets (sets out 0 (section words)) p (section x)) t ∙ sets_then out 0 p (section words) (section (listed regs)) (omega arith) in
-      e3 ∙ ap (λ (x : List ℕ). sets x q (section (entry ∷ []))) two'
-      ∙ sets_then out 0 q (section words ++ section (listed regs)) (section (entry ∷ [])) (omega arith)
-      ∙ sets_over (image_bytes words regs entry) out fits
+  module _ (p q r : ℕ) (ep : p ≡ 0 + 4 + 4 * length words) (eq : q ≡ p + 4 + 4 * length (take k regs)) (er : r ≡ q + 4 + 4 * 1) where
+    pub image_length : r ≡ length (image_bytes words regs entry)
+    image_length = let l = length_image words regs entry in let t = ap length registers in omega arith
+
+    pub image_stored : length (image_bytes words regs entry) ≤ length out → (one two three : List ℕ)
+        → one ≡ sets out 0 (section words) → two ≡ sets one p (section (take k regs))
+        → three ≡ sets two q (section (entry ∷ []))
+        → three ≡ over (image_bytes words regs entry) out
+    unfolding image_bytes
+    image_stored fits one two three e1 e2 e3 =
+        let w = length_section words in
+        let f = length_section (listed regs) in
+        let a = length-append (section words) (section (listed regs)) in
+        let t = ap length registers in
+        let two' : two ≡ sets out 0 (section words ++ section (listed regs)) = e2 ∙ ap (λ (x : List ℕ). sets x p (section (take k regs))) e1 ∙ ap (λ (x : List ℕ). sets (sets out 0 (section words)) p (section x)) registers ∙ sets_then out 0 p (section words) (section (listed regs)) (omega arith) in
+        e3 ∙ ap (λ (x : List ℕ). sets x q (section (entry ∷ []))) two'
+        ∙ sets_then out 0 q (section words ++ section (listed regs)) (section (entry ∷ [])) (omega arith)
+        ∙ sets_over (image_bytes words regs entry) out fits

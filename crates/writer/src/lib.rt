@@ -5,38 +5,32 @@ mod numbers;
 mod sections;
 
 ghost use Rattle.std.specs.Prelude.{◌≡◌, ◌≤◌, length};
+ghost use Rattle.answers.specs.Numbers.{answer_of};
 ghost use Rattle.rules.specs.Images.{image_bytes, over, write_verdict, write};
 ghost use Rattle.writer.specs.Views.{written_of};
 
 use crate::sections::{listed_count, put_section};
+use answers::Refusal;
 
-// Answer 0 and the length written, or a refusal and 0.
-#[derive(Clone, Copy)]
-pub struct Written {
-    pub answer: u32,
-    pub length: usize,
-}
+// No image has more words.
+const MOST: usize = 2048;
 
-// What is wrong first, or 0.
-fn verdict(words: &[u32], regs: &[u32; 16], entry: u32, out: &[u8]) -> u32
-    ensures { result ≡ write_verdict words.now regs.now entry out.now }
+// Whether an image of these can be written.
+fn check(words: &[u32], regs: &[u32; 16], entry: u32, out: &[u8]) -> Result<(), Refusal>
+    ensures { answer_of result ≡ write_verdict words.now regs.now entry out.now }
 {
     let n = words.len();
-    if n < 1 {
-        return answers::BAD_SIZE;
-    }
-    if 2048 < n {
-        return answers::BAD_SIZE;
+    if n < 1 || MOST < n {
+        return Err(Refusal::BadSize);
     }
     if n <= entry as usize {
-        return answers::BAD_ENTRY;
+        return Err(Refusal::BadEntry);
     }
     let k = listed_count(regs);
-    let length = 16 + 4 * n + 4 * k;
-    if out.len() < length {
-        return answers::SHORT_BUFFER;
+    if out.len() < 16 + 4 * n + 4 * k {
+        return Err(Refusal::ShortBuffer);
     }
-    answers::DONE
+    Ok(())
 }
 
 // The three sections, each where the one before ends; answers the length of the image.
@@ -44,22 +38,17 @@ fn put_image(out: &mut [u8], words: &[u32], regs: &[u32; 16], entry: u32) -> usi
     requires { (length words.now ≤ 2048) × (length (image_bytes words.now regs.now entry) ≤ length out.old) }
     ensures { (result ≡ length (image_bytes words.now regs.now entry)) × (out.new ≡ over (image_bytes words.now regs.now entry) out.old) }
 {
-    let n = words.len();
     let k = listed_count(regs);
-    let pc = [entry];
-    let registers = put_section(out, 0, words, n);
-    let entries = put_section(out, registers, regs, k);
-    put_section(out, entries, &pc, 1)
+    let listed = &regs[..k];
+    let registers = put_section(out, 0, words);
+    let entries = put_section(out, registers, listed);
+    put_section(out, entries, &[entry])
 }
 
-// Writes the image of exactly these words, the registers up to the last that is not 0, and the entry.
-pub fn write(words: &[u32], regs: &[u32; 16], entry: u32, out: &mut [u8]) -> Written
+// Writes the image of exactly these words, the registers up to the last that is not 0, and the entry; answers its length.
+pub fn write(words: &[u32], regs: &[u32; 16], entry: u32, out: &mut [u8]) -> Result<usize, Refusal>
     ensures { written_of result out.new ≡ write words.now regs.now entry out.old }
 {
-    let answer = verdict(words, regs, entry, out);
-    if answer != answers::DONE {
-        return Written { answer, length: 0 };
-    }
-    let length = put_image(out, words, regs, entry);
-    Written { answer, length }
+    check(words, regs, entry, out)?;
+    Ok(put_image(out, words, regs, entry))
 }

@@ -3,13 +3,12 @@ ghost use Rattle.std.specs.Prelude.{◌≡◌, ◌+◌, ◌≤◌, length};
 ghost use Rattle.std.proofs.lemmas.List.Edits.{sets};
 ghost use Rattle.rules.specs.Images.{four_bytes};
 
-// Puts a number into the four bytes from a place on.
-pub(crate) fn put(out: &mut [u8], at: usize, x: u32)
+// Puts a number into the four bytes from a place on; answers the place after them.
+pub(crate) fn put(out: &mut [u8], at: usize, x: u32) -> usize
     requires { at + 4 ≤ length out.old }
-    ensures { out.new ≡ sets out.old at (four_bytes x) }
+    ensures { (result ≡ at + 4) × (out.new ≡ sets out.old at (four_bytes x)) }
 {
-    out[at] = (x % 256) as u8;
-    out[at + 1] = (x / 256 % 256) as u8;
-    out[at + 2] = (x / 65536 % 256) as u8;
-    out[at + 3] = (x / 16777216 % 256) as u8;
+    let end = at + 4;
+    out[at..end].copy_from_slice(&x.to_le_bytes());
+    end
 }

@@ -1,20 +1,18 @@
 -- The two passes, then the writer; the words that it gets are those that the text means.
-use mathlib.Core.Path.{refl, sym}
-use lib.Seq.{length-take-le}
-use Rattle.assembler.specs.Assembling.{text_refused, text_written}
+use Rattle.std.proofs.Common.{sym, ◌∙◌}
+use Rattle.std.proofs.lemmas.Result.{err_from_is_err_and}
+use Rattle.assembler.specs.Assembling.{text_refused, image_written, image_refused}
 use Rattle.assembler.proofs.assemble.Goals as goal
 
-pub emit-e-requires : goal.emit-e-requires
-emit-e-requires c = (c.survey-complete.ensures, refl)
+pub returns-in_err-count : goal.returns-in_err-count
+returns-in_err-count c = let p = err_from_is_err_and c.from_residual.result c.from_residual.ensures.1 in
+    let h = c.in_err-count.ensures {u = tt} in
+    rw (p.1, p.2) (text_refused _ c.emit.new.words _ _ h.means)
 
-pub returns-then-e-ne-DONE : goal.returns-then-e-ne-DONE
-returns-then-e-ne-DONE c = text_refused _ c.emit-e.new.words _ c.emit-e.result c.emit-e.ensures.0 c.if-e-ne-DONE.true
+pub returns-in-Ok : goal.returns-in-Ok
+returns-in-Ok c = let h = c.in_ok-count.ensures {u = tt} in
+    image_written _ c.emit.new.words _ _ h.means _ _ c.in-Ok.ensures
 
-pub slice_bounds-words-end : goal.slice_bounds-words-end
-slice_bounds-words-end c = c.emit-e.ensures.1
-
-pub slice_bounds-write-end : goal.slice_bounds-write-end
-slice_bounds-write-end c = sym (length-take-le c.emit-e.result.count c.emit-e.new.words c.emit-e.ensures.1)
-
-pub returns : goal.returns
-returns c = text_written _ c.emit-e.new.words _ c.emit-e.result c.emit-e.ensures.0 c.if-e-ne-DONE.false _ _ _ c.write-w.ensures
+pub returns-in-Err : goal.returns-in-Err
+returns-in-Err c = let h = c.in_ok-count.ensures {u = tt} in
+    image_refused _ c.emit.new.words _ _ h.means _ _ c.in-Err.ensures

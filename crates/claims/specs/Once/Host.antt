@@ -9,6 +9,9 @@ use Rattle.rows.specs.Views.{table}
 use Rattle.machine.specs.declared.Processor.{Processor}
 use Rattle.machine.specs.Views.{processor_of}
 use Rattle.host.specs.Views.{DecodeOutcome, WhyOutcome}
+use Rattle.host.proofs.kl_load.Reads as kl-load
+use Rattle.host.proofs.kl_step.Reads as kl-step
+use Rattle.host.proofs.kl_run.Reads as kl-run
 use Rattle.host.proofs.kl_check.Reads as kl-check
 use Rattle.host.proofs.kl_decode.Reads as kl-decode
 use Rattle.host.proofs.kl_encode.Reads as kl-encode
@@ -21,23 +24,26 @@ use Rattle.host.proofs.kl_assemble.Reads as kl-assemble
 use Rattle.host.proofs.kl_import.Reads as kl-import
 use Rattle.host.proofs.kl_disassemble.Reads as kl-disassemble
 use Rattle.host.proofs.kl_export.Reads as kl-export
+use Rattle.host.proofs.kl_owned.Reads as kl-owned
+use Rattle.host.proofs.kl_jumps.Reads as kl-jumps
+use Rattle.host.proofs.kl_stores.Reads as kl-stores
+use Rattle.host.proofs.kl_widest.Reads as kl-widest
 use Rattle.report.proofs.owned.Reads as owned
 use Rattle.report.proofs.jumps.Reads as jumps
 use Rattle.report.proofs.stores.Reads as stores
 use Rattle.report.proofs.widest.Reads as widest
 use Rattle.claims.specs.Allowed.{Once, same, same_by}
-use Rattle.claims.specs.HostContracts as kl
 use Rattle.claims.specs.Memories.{Lists, lists, lists_of}
 
 -- kl_load, kl_step, kl_run, with the record, the five memories and the rows, seen as the rules', and for kl_run the count
 
-pub kl_load_once : Once kl.load {Out = ℕ × Processor × Lists × List Row} (λ κs r s. (r, s.0.now, lists s.1.1.1, table s.1.1.1.1.1.1.1.1.0.now))
+pub kl_load_once : Once kl-load.Post {Out = ℕ × Processor × Lists × List Row} (λ κs r s. (r, s.0.now, lists s.1.1.1, table s.1.1.1.1.1.1.1.1.0.now))
 kl_load_once κs a r q s t = same_by (λ (m : LentStepped). (m.answer, processor_of m.state.cpu, lists_of m.state, m.rows))
 
-pub kl_step_once : Once kl.step {Out = ℕ × Processor × Lists × List Row} (λ κs r s. (r, s.0.now, lists s.1, table s.1.1.1.1.1.1.0.now))
+pub kl_step_once : Once kl-step.Post {Out = ℕ × Processor × Lists × List Row} (λ κs r s. (r, s.0.now, lists s.1, table s.1.1.1.1.1.1.0.now))
 kl_step_once κs a r q s t = same_by (λ (m : LentStepped). (m.answer, processor_of m.state.cpu, lists_of m.state, m.rows))
 
-pub kl_run_once : Once kl.run {Out = ℕ × Processor × Lists × List Row × ℕ} (λ κs r s. (r, s.0.now, lists s.1, table s.1.1.1.1.1.1.0.now, s.1.1.1.1.1.1.1.1.0.now))
+pub kl_run_once : Once kl-run.Post {Out = ℕ × Processor × Lists × List Row × ℕ} (λ κs r s. (r, s.0.now, lists s.1, table s.1.1.1.1.1.1.0.now, s.1.1.1.1.1.1.1.1.0.now))
 kl_run_once κs a r q s t = same_by (λ (m : LentRan). (m.answer, processor_of m.state.cpu, lists_of m.state, m.rows, m.count))
 
 -- kl_check, with N
@@ -95,14 +101,14 @@ stores_once κs a r q s t = same
 pub widest_once : Once widest.Post (λ κs r s. r)
 widest_once κs a r q s t = same
 
-pub kl_owned_once : Once kl.owned (λ κs r s. r)
+pub kl_owned_once : Once kl-owned.Post (λ κs r s. r)
 kl_owned_once κs a r q s t = same
 
-pub kl_jumps_once : Once kl.jumps (λ κs r s. r)
+pub kl_jumps_once : Once kl-jumps.Post (λ κs r s. r)
 kl_jumps_once κs a r q s t = same
 
-pub kl_stores_once : Once kl.stores (λ κs r s. r)
+pub kl_stores_once : Once kl-stores.Post (λ κs r s. r)
 kl_stores_once κs a r q s t = same
 
-pub kl_widest_once : Once kl.widest (λ κs r s. r)
+pub kl_widest_once : Once kl-widest.Post (λ κs r s. r)
 kl_widest_once κs a r q s t = same

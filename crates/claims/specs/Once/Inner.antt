@@ -17,17 +17,21 @@ use Rattle.rights.proofs.arrival.unasked.Reads as unasked
 use Rattle.rights.proofs.arrival.prev_of.Reads as prev-of
 use Rattle.rights.proofs.arrival.jumped_of.Reads as jumped-of
 use Rattle.rights.proofs.arrival.is_home.Reads as is_home
-use Rattle.address_sets.proofs.pair_at.Reads as pair-at
-use Rattle.address_sets.proofs.in_order.Reads as in_order
-use Rattle.address_sets.proofs.has.Reads as has
+use Rattle.address_sets.proofs.Pair.contains.Reads as pair-contains
+use Rattle.address_sets.proofs.AddressSet.count.Reads as pairs
+use Rattle.address_sets.proofs.AddressSet.is_empty.Reads as is_empty
+use Rattle.address_sets.proofs.AddressSet.pair.Reads as pair
+use Rattle.address_sets.proofs.AddressSet.is_in_order.Reads as is_in_order
+use Rattle.address_sets.proofs.AddressSet.contains.Reads as set-contains
 use Rattle.address_sets.proofs.clipped.Reads as clipped
-use Rattle.reach.proofs.owns.Reads as owns
-use Rattle.reach.proofs.all_good.Reads as all-good
-use Rattle.reach.proofs.all_within.Reads as all-within
-use Rattle.reach.proofs.returns.Reads as returns
-use Rattle.reach.proofs.good.Reads as good
-use Rattle.reach.proofs.walk.reaches.Reads as reaches
-use Rattle.reach.proofs.walk.within.Reads as within
+use Rattle.reach.proofs.Caller.owns.Reads as owns
+use Rattle.reach.proofs.Caller.reaches.Reads as reaches
+use Rattle.reach.proofs.Caller.within.Reads as within
+use Rattle.reach.proofs.Caller.good.Reads as good
+use Rattle.reach.proofs.Call.set.Reads as set
+use Rattle.reach.proofs.Call.all_good.Reads as all-good
+use Rattle.reach.proofs.Call.all_within.Reads as all-within
+use Rattle.reach.proofs.Call.returns.Reads as returns
 use Rattle.tags.proofs.own.Reads as own
 use Rattle.tags.proofs.join.Reads as join
 use Rattle.tags.proofs.join_at.Reads as join-at
@@ -92,21 +96,33 @@ jumped_of_once κs a r q s t = same
 pub is_home_once : Once is_home.Post (λ κs r s. r)
 is_home_once κs a r q s t = same
 
--- address_sets: pair_at, in_order, has, clipped
+-- address_sets: Pair::contains; AddressSet::count, is_empty, pair, is_in_order, contains; clipped
 
-pub pair_at_once : Once pair-at.Post (λ κs r s. r)
+pub pair_contains_once : Once pair-contains.Post (λ κs r s. r)
+pair_contains_once κs a r q s t = same
+
+pub pairs_once : Once pairs.Post (λ κs r s. r)
+pairs_once κs a r q s t = same
+
+pub is_empty_once : Once is_empty.Post (λ κs r s. r)
+is_empty_once κs a r q s t = same
+
+pub pair_at_once : Once pair.Post (λ κs r s. r)
 pair_at_once κs a r q s t = same_by (λ (p : sets.Pair). record { first = p.first; past = p.past })
 
-pub in_order_once : Once in_order.Post (λ κs r s. r)
+pub in_order_once : Once is_in_order.Post (λ κs r s. r)
 in_order_once κs a r q s t = same
 
-pub has_once : Once has.Post (λ κs r s. r)
+pub has_once : Once set-contains.Post (λ κs r s. r)
 has_once κs a r q s t = same
 
 pub clipped_once : Once clipped.Post (λ κs r s. r)
 clipped_once κs a r q s t = same
 
--- reach: owns, good, all_good, reaches, within, all_within, returns
+-- reach: Caller::owns, reaches, within, good; Call::set, all_good, all_within, returns
+
+pub set_once : Once set.Post (λ κs r s. r)
+set_once κs a r q s t = same
 
 pub good_once : Once good.Post (λ κs r s. r)
 good_once κs a r q s t = same
@@ -136,10 +152,10 @@ same_count : (f : List ℕ → ℕ) {x y z : List ℕ} {r q : ℕ} → (x ≡ z)
 same_count f h k = let e = same h.0 k.0 in let d = h.1 ∙ ap f e ∙ sym k.1 in λ i. (d i, e i)
 
 pub own_once : Once own.Post {Out = ℕ × List ℕ} (λ κs r s. (r, s.0.now))
-own_once κs a r q s t = same_count (differing a.1.1.0 a.0.now)
+own_once κs a r q s t = same_count (differing a.1.0 a.0.now)
 
 pub join_once : Once join.Post {Out = ℕ × List ℕ} (λ κs r s. (r, s.0.now))
-join_once κs a r q s t = same_count (differing a.1.1.0 a.0.now)
+join_once κs a r q s t = same_count (differing a.1.0 a.0.now)
 
 pub join_at_once : Once join-at.Post {Out = ℕ × List ℕ} (λ κs r s. (r, s.0.now))
 join_at_once κs a r q s t = same_count (λ l. bit (differs (get_or a.0.now a.1.0 0) (get_or l a.1.0 0)))

@@ -1,24 +1,27 @@
 -- "Two outcomes allowed by one promise are proved equal", of the machine: sets of numbers, words, one instruction, services, step and run, images.
-use Rattle.std.specs.Prelude.{ℕ, List}
+use Rattle.std.specs.Prelude.{◌≡◌, ℕ, List, refl, Result, Ok, Err}
+use Rattle.std.proofs.Common.{sym, ap, ◌∙◌}
 use Rattle.common.specs.Words as words
 use Rattle.rules.specs.Step as rules
 use Rattle.rules.specs.Run as rules-run
 use Rattle.rules.specs.Images as images
+use Rattle.answers.specs.declared.Refusal.{Refusal}
 use Rattle.compartments.specs.declared.Set.{Set}
-use Rattle.instructions.specs.declared.Decoded.{Decoded}
-use Rattle.instructions.specs.declared.Encoded.{Encoded}
-use Rattle.instructions.specs.declared.Standing.{Standing}
+use Rattle.answers.specs.Numbers.{answer_of}
+use Rattle.answers.specs.Results.{result_of, result_of-number, same_result}
+use Rattle.instructions.specs.declared.Instruction.{Instruction}
+use Rattle.instructions.specs.Views.{decoded, encoded}
 use Rattle.monitor.specs.declared.Isolated.{Isolated}
-use Rattle.monitor.specs.declared.Added.{Added}
-use Rattle.monitor.specs.Outcomes.{Isolating, Adding}
-use Rattle.service.specs.Served.{Serving}
+use Rattle.reach.specs.declared.Call.{Call}
+use Rattle.monitor.specs.Outcomes.{Isolating, isolating_of, Adding, adding_of}
+use Rattle.service.specs.Served.{Serving, served_of}
 use Rattle.service.specs.declared.Served.{Served}
 use Rattle.machine.specs.declared.Stepped.{Stepped}
 use Rattle.machine.specs.declared.Ran.{Ran}
 use Rattle.machine.specs.Views.{processor_of}
-use Rattle.reader.specs.declared.Checked.{Checked}
+use Rattle.answers.specs.Results.{same_result}
+use Rattle.reader.specs.Views.{read_of, checked_of}
 use Rattle.loader.specs.declared.Loaded.{Loaded}
-use Rattle.writer.specs.declared.Written.{Written}
 use Rattle.compartments.proofs.Set.none.Reads as none
 use Rattle.compartments.proofs.Set.of_services.Reads as of-services
 use Rattle.compartments.proofs.Set.contains.Reads as contains
@@ -47,6 +50,7 @@ use Rattle.reader.proofs.check.Reads as check
 use Rattle.loader.proofs.load.Reads as load
 use Rattle.loader.proofs.load_rows.Reads as load_rows
 use Rattle.writer.proofs.write.Reads as write
+use Rattle.claims.specs.Once.Written.{written_same}
 use Rattle.claims.specs.Allowed.{Once, same, same_by}
 use Rattle.claims.specs.Memories.{Tags, tags, Lists, lists, lists_of}
 
@@ -78,10 +82,7 @@ lowest_once κs a r q s t = same
 pub used_once : Once used.Post (λ κs r s. r)
 used_once κs a r q s t = same
 
-abbrev fields_in : words.Decoded → Decoded
-fields_in d = record { answer = d.answer; op = d.op; a = d.a; b = d.b; low = d.low }
-
-abbrev standing_in : words.Decoded → Standing
+abbrev standing_in : words.Decoded → Instruction
 standing_in d = record { op = d.op; a = d.a; b = d.b; low = d.low }
 
 pub fits_once : Once fits.Post (λ κs r s. r)
@@ -91,13 +92,10 @@ pub fields_once : Once fields.Post (λ κs r s. r)
 fields_once κs a r q s t = same_by standing_in
 
 pub decode_once : Once decode.Post (λ κs r s. r)
-decode_once κs a r q s t = same_by fields_in
-
-abbrev word_in : words.Encoded → Encoded
-word_in e = record { answer = e.answer; word = e.word }
+decode_once κs a r q s t h k = same_result decoded (λ d. d.answer) standing_in (λ i. refl) (λ i. refl) (λ e. refl) r q (same h k)
 
 pub encode_once : Once encode.Post (λ κs r s. r)
-encode_once κs a r q s t = same_by word_in
+encode_once κs a r q s t h k = same_result encoded (λ e. e.answer) (λ e. e.word) (λ w. refl) (λ w. refl) (λ e. refl) r q (same h k)
 
 -- moves: decide
 
@@ -107,21 +105,45 @@ decide_once κs a r q s t = same
 -- monitor: isolate_verdict; isolate, with the owners, jumpers, writers and readers; add_target, with the sets
 
 pub isolate_verdict_once : Once isolate-verdict.Post (λ κs r s. r)
-isolate_verdict_once κs a r q s t = same
+isolate_verdict_once κs a r q s t h k = same_result answer_of (λ n. n) (λ n. Prim.tt) (λ u. refl) (λ u. refl) (λ e. refl) r q (same h k)
 
-pub isolate_once : Once isolate.Post {Out = Isolated × Tags} (λ κs r s. (r, tags s.1.1.1.1.1.1.1))
-isolate_once κs a r q s t =
-    same_by (λ (m : Isolating). (record { answer = m.answer; services = m.services; owned = m.owned; jump = m.jump; store = m.store }, (m.owners, m.jumpers, m.writers, m.readers)))
+-- what is seen of a result and of the memories tells them
 
-pub add_target_once : Once add-target.Post {Out = Added × List ℕ} (λ κs r s. (r, s.1.1.1.1.1.0.now))
-add_target_once κs a r q s t = same_by (λ (m : Adding). (record { answer = m.answer; joined = m.joined }, m.sets))
+isolated_in : Isolating → Result Isolated Refusal × Tags
+isolated_in m = (result_of m.answer (record { services = m.services; owned = m.owned; jump = m.jump; store = m.store }), (m.owners, m.jumpers, m.writers, m.readers))
+
+is_isolated : (services o j w d : List ℕ) (r : Result Isolated Refusal) → isolated_in (isolating_of services r o j w d) ≡ (r, (o, j, w, d))
+unfolding isolated_in
+is_isolated services o j w d (Ok i) = refl
+is_isolated services o j w d (Err e) = ap (λ (r : Result Isolated Refusal). (r, (o, j, w, d))) (result_of-number e _)
+
+pub isolate_once : Once isolate.Post {Out = Result Isolated Refusal × Tags} (λ κs r s. (r, tags s.1.1))
+isolate_once κs a r q s t h k = sym (is_isolated a.0.now.services _ _ _ _ r) ∙ same_by isolated_in h k ∙ is_isolated a.0.now.services _ _ _ _ q
+
+added_in : Adding → Result ℕ Refusal × List ℕ
+added_in m = (result_of m.answer m.joined, m.sets)
+
+is_added : (sets : List ℕ) (r : Result ℕ Refusal) → added_in (adding_of r sets) ≡ (r, sets)
+unfolding added_in
+is_added sets (Ok n) = refl
+is_added sets (Err e) = ap (λ (r : Result ℕ Refusal). (r, sets)) (result_of-number e _)
+
+pub add_target_once : Once add-target.Post {Out = Result ℕ Refusal × List ℕ} (λ κs r s. (r, s.1.1.0.now))
+add_target_once κs a r q s t h k = sym (is_added _ r) ∙ same_by added_in h k ∙ is_added _ q
 
 -- service: serve, with the owners, jumpers, writers and readers
 
-pub serve_once : Once serve.Post {Out = Served × Tags} (λ κs r s. (r, tags s.1.1.1.1.1.1.1.1.1))
-serve_once κs a r q s t =
-    same_by (λ (m : Serving).
-    (record { answer = m.answer; number = m.number; next = m.next; services = m.services; to = m.to; owned = m.owned; jump = m.jump; store = m.store }, (m.owners, m.jumpers, m.writers, m.readers)))
+served_in : Serving → Result Served Refusal × Tags
+served_in m =
+    (result_of m.answer (record { number = m.number; next = m.next; services = m.services; to = m.to; owned = m.owned; jump = m.jump; store = m.store }), (m.owners, m.jumpers, m.writers, m.readers))
+
+is_served : (k : Call) (o j w d : List ℕ) (r : Result Served Refusal) → served_in (served_of k r o j w d) ≡ (r, (o, j, w, d))
+unfolding served_in
+is_served k o j w d (Ok i) = refl
+is_served k o j w d (Err e) = ap (λ (r : Result Served Refusal). (r, (o, j, w, d))) (result_of-number e _)
+
+pub serve_once : Once serve.Post {Out = Result Served Refusal × Tags} (λ κs r s. (r, tags s.1.1.1.1))
+serve_once κs a r q s t h k = sym (is_served a.0.now _ _ _ _ r) ∙ same_by served_in h k ∙ is_served a.0.now _ _ _ _ q
 
 -- machine: Processor::step, Processor::run, with the five memories
 
@@ -147,23 +169,28 @@ pub number_once : Once number.Post (λ κs r s. r)
 number_once κs a r q s t = same
 
 pub read_once : Once read.Post (λ κs r s. r)
-read_once κs a r q s t = same
-
-abbrev checked_in : images.Checked → Checked
-checked_in c = record { answer = c.answer; size = c.size }
+read_once κs a r q s t h k =
+    same_result read_of (λ m. m.answer) (λ m. record { size = m.size; regs = m.regs; entry = m.entry }) (λ i. refl) (λ i. refl) (λ e. refl) r q (same h k)
 
 pub check_once : Once check.Post (λ κs r s. r)
-check_once κs a r q s t = same_by checked_in
+check_once κs a r q s t h k = same_result checked_of (λ c. c.answer) (λ c. c.size) (λ n. refl) (λ n. refl) (λ e. refl) r q (same h k)
 
 -- loader: load, with the five memories
 
+pub one_answer : (r q : Loaded) → answer_of r.answer ≡ answer_of q.answer → r.answer ≡ q.answer
+one_answer r q = same_result answer_of (λ n. n) (λ n. tt) (λ a. refl) (λ a. refl) (λ e. refl) r.answer q.answer
+
 pub load_once : Once load.Post {Out = Loaded × Lists} (λ κs r s. (r, lists s.1.1))
-load_once κs a r q s t = same_by (λ (m : images.Loaded). (record { cpu = processor_of m.state.cpu; answer = m.answer }, lists_of m.state))
+load_once κs a r q s t h k =
+    let e = same h k in
+    λ i. (record { cpu = processor_of (e i).state.cpu; answer = one_answer r q (ap (λ (m : images.Loaded). m.answer) e) i }, lists_of (e i).state)
 
 pub load_rows_once : Once load_rows.Post {Out = Loaded × Lists × List Row} (λ κs r s. (r, lists s.1.1, table s.1.1.1.1.1.1.1.0.now))
-load_rows_once κs a r q s t = same_by (λ (m : LentStepped). (record { cpu = processor_of m.state.cpu; answer = m.answer }, lists_of m.state, m.rows))
+load_rows_once κs a r q s t h k =
+    let e = same h k in
+    λ i. (record { cpu = processor_of (e i).state.cpu; answer = one_answer r q (ap (λ (m : LentStepped). m.answer) e) i }, lists_of (e i).state, (e i).rows)
 
 -- writer: write, with the buffer
 
-pub write_once : Once write.Post {Out = Written × List ℕ} (λ κs r s. (r, s.1.1.1.0.now))
-write_once κs a r q s t = same_by (λ (m : images.Written). (record { answer = m.answer; length = m.length }, m.out))
+pub write_once : Once write.Post {Out = Result ℕ Refusal × List ℕ} (λ κs r s. (r, s.1.1.1.0.now))
+write_once κs a r q s t h k = written_same r q s.1.1.1.0.now t.1.1.1.0.now (same h k)

@@ -1,12 +1,14 @@
 -- "Two outcomes allowed by one promise are proved equal", of the text that is printed.
+use Rattle.std.specs.Prelude.{List, ℕ}
 use Rattle.numerals.specs.Writing.{Put}
-use Rattle.printed.specs.Outcome.{Printed}
+use Rattle.printer.specs.declared.Printed.{Printed}
 use Rattle.text.proofs.least.Reads as least
 use Rattle.text.proofs.put_text.Reads as put-text
 use Rattle.text.proofs.put_decimal.Reads as put-decimal
 use Rattle.text.proofs.put_hexadecimal.Reads as put-hexadecimal
 use Rattle.text.proofs.put_pair.Reads as put-pair
 use Rattle.printer.proofs.print.Reads as print
+use Rattle.claims.specs.Once.Written.{printed_same}
 use Rattle.claims.specs.Allowed.{Once, same}
 
 -- text: least; put_text, put_decimal, put_hexadecimal, put_pair, with the buffer at exit
@@ -28,5 +30,5 @@ put_pair_once κs a r q s t = same
 
 -- printer: print
 
-pub print_once : Once print.Post {Out = Printed} (λ κs r s. record { answer = r.answer; length = r.length; status = r.status; out = s.1.1.0.now })
-print_once κs a r q s t = same
+pub print_once : Once print.Post {Out = Printed × List ℕ} (λ κs r s. (r, s.1.1.0.now))
+print_once κs a r q s t h k = printed_same r q s.1.1.0.now t.1.1.0.now (same h k)

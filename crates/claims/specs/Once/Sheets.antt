@@ -1,8 +1,9 @@
 -- "Two outcomes allowed by one promise are proved equal", of the sheet, and of the lines that it shares with the run program's text.
-use Rattle.std.specs.Prelude.{ℕ}
+use Rattle.std.specs.Prelude.{List, ℕ, Result}
+use Rattle.answers.specs.declared.Refusal.{Refusal}
 use Rattle.numerals.specs.Writing.{Put}
 use Rattle.sheets.specs.Totals.{Totals}
-use Rattle.sheets.specs.Told.{Told, Lined}
+use Rattle.sheet.specs.declared.Lined.{Lined}
 use Rattle.sheet.specs.Views as seen
 use Rattle.printer.proofs.lines.put_field.Reads as put-field
 use Rattle.printer.proofs.lines.put_fields.Reads as put-fields
@@ -12,6 +13,7 @@ use Rattle.sheet.proofs.none.Reads as none
 use Rattle.sheet.proofs.add.Reads as add
 use Rattle.sheet.proofs.total.Reads as total
 use Rattle.sheet.proofs.ended.Reads as ended
+use Rattle.claims.specs.Once.Written.{ending_same, told_same, lined_same}
 use Rattle.claims.specs.Allowed.{Once, same}
 
 -- printer: put_field, put_fields, put_refused; the result, and the buffer at exit
@@ -27,8 +29,8 @@ put_refused_once κs a r q s t h k = same h.0 k.0
 
 -- sheet: line, none, add, total, ended
 
-pub line_once : Once line.Post {Out = Lined} (λ κs r s. seen.lined_of r s.1.1.0.now)
-line_once κs a r q s t = same
+pub line_once : Once line.Post {Out = Lined × List ℕ} (λ κs r s. (r, s.1.1.0.now))
+line_once κs a r q s t h k = lined_same r q s.1.1.0.now t.1.1.0.now (same h k)
 
 pub none_once : Once none.Post {Out = Totals} (λ κs r s. seen.totals_of r)
 none_once κs a r q s t = same
@@ -36,8 +38,8 @@ none_once κs a r q s t = same
 pub add_once : Once add.Post {Out = Totals} (λ κs r s. seen.totals_of r)
 add_once κs a r q s t = same
 
-pub total_once : Once total.Post {Out = Told} (λ κs r s. seen.told_of r s.1.1.0.now)
-total_once κs a r q s t = same
+pub total_once : Once total.Post {Out = Result ℕ Refusal × List ℕ} (λ κs r s. (r, s.1.1.0.now))
+total_once κs a r q s t h k = told_same r q s.1.1.0.now t.1.1.0.now (same h k)
 
-pub ended_once : Once ended.Post {Out = ℕ} (λ κs r s. r)
-ended_once κs a r q s t = same
+pub ended_once : Once ended.Post (λ κs r s. r)
+ended_once κs a r q s t h k = ending_same r q (same h k)

@@ -1,20 +1,22 @@
 -- "Two outcomes allowed by one promise are proved equal", of sources.
-use Rattle.std.specs.Prelude.{List, ℕ}
-use Rattle.rules.specs.Images as images
-use Rattle.sources.specs.Meaning as sources
-use Rattle.assembler.specs.declared.Assembled.{Assembled}
-use Rattle.disassembler.specs.declared.Listed.{Listed}
+use Rattle.std.specs.Prelude.{List, ℕ, Result}
+use Rattle.answers.specs.declared.Fault.{Fault}
+use Rattle.answers.specs.declared.Refusal.{Refusal}
+use Rattle.assembler.specs.Assembling.{one_assembled}
+use Rattle.tokens.specs.Kinds.{one_taken}
 use Rattle.tokens.proofs.token.Reads as token
 use Rattle.tokens.proofs.line_end.Reads as line-end
 use Rattle.tokens.proofs.same_name.Reads as same_name
 use Rattle.tokens.proofs.folded.Reads as folded
+use Rattle.syntax.specs.Seen.{one_shape}
 use Rattle.syntax.proofs.shape.Reads as shape
-use Rattle.label_table.proofs.is_full.Reads as is-full
-use Rattle.label_table.proofs.find.Reads as find
-use Rattle.label_table.proofs.insert.Reads as insert
+use Rattle.label_table.proofs.Table.new.Reads as new
+use Rattle.label_table.proofs.Table.is_full.Reads as is-full
+use Rattle.label_table.proofs.Table.find.Reads as find
+use Rattle.label_table.proofs.Table.insert.Reads as insert
 use Rattle.labels.proofs.held.Reads as held
 use Rattle.labels.proofs.scan.Reads as scan
-use Rattle.labels.proofs.locate.Reads as locate
+use Rattle.labels.proofs.Labels.locate.Reads as locate
 use Rattle.values.proofs.number.Reads as number
 use Rattle.values.proofs.unknown.Reads as unknown
 use Rattle.values.proofs.plus.Reads as plus
@@ -22,15 +24,16 @@ use Rattle.values.proofs.minus.Reads as minus
 use Rattle.values.proofs.times.Reads as times
 use Rattle.values.proofs.negated.Reads as negated
 use Rattle.values.proofs.fit.Reads as fit
-use Rattle.expressions.proofs.expression.Reads as expression
+use Rattle.expressions.proofs.Line.expression.Reads as expression
 use Rattle.assembler.proofs.assemble.Reads as assemble
 use Rattle.disassembler.proofs.disassemble.Reads as disassemble
+use Rattle.claims.specs.Once.Written.{written_same}
 use Rattle.claims.specs.Allowed.{Once, same, same_by}
 
 -- tokens: token, line_end, same_name, folded
 
 pub token_once : Once token.Post (λ κs r s. r)
-token_once κs a r q s t = same
+token_once κs a r q s t h k = one_taken r q (same h k)
 
 pub line_end_once : Once line-end.Post (λ κs r s. r)
 line_end_once κs a r q s t = same
@@ -44,9 +47,12 @@ folded_once κs a r q s t = same
 -- syntax: shape
 
 pub shape_once : Once shape.Post (λ κs r s. r)
-shape_once κs a r q s t = same
+shape_once κs a r q s t h k = one_shape r q (same h k)
 
--- label_table: is_full, find; insert, with the table
+-- label_table: new, is_full, find; insert, with the table
+
+pub new_once : Once new.Post (λ κs r s. r)
+new_once κs a r q s t = same
 
 pub is_full_once : Once is-full.Post (λ κs r s. r)
 is_full_once κs a r q s t = same
@@ -54,7 +60,7 @@ is_full_once κs a r q s t = same
 pub find_once : Once find.Post (λ κs r s. r)
 find_once κs a r q s t = same
 
-pub insert_once : Once insert.Post (λ κs r s. s.1.0.now)
+pub insert_once : Once insert.Post (λ κs r s. s.0.now)
 insert_once κs a r q s t = same
 
 -- labels: held, scan, locate
@@ -98,8 +104,8 @@ expression_once κs a r q s t = same
 
 -- assembler: assemble, with the buffer; disassembler: disassemble, with the buffer
 
-pub assemble_once : Once assemble.Post {Out = Assembled × List ℕ} (λ κs r s. (r, s.1.0.now))
-assemble_once κs a r q s t = same_by (λ (m : sources.Assembled). (record { answer = m.answer; line = m.line; length = m.length }, m.out))
+pub assemble_once : Once assemble.Post {Out = Result ℕ Fault × List ℕ} (λ κs r s. (r, s.1.0.now))
+assemble_once κs a r q s t h k = one_assembled _ _ _ _ (same h k)
 
-pub disassemble_once : Once disassemble.Post {Out = Listed × List ℕ} (λ κs r s. (r, s.1.0.now))
-disassemble_once κs a r q s t = same_by (λ (m : images.Written). (record { answer = m.answer; length = m.length }, m.out))
+pub disassemble_once : Once disassemble.Post {Out = Result ℕ Refusal × List ℕ} (λ κs r s. (r, s.1.0.now))
+disassemble_once κs a r q s t h k = written_same r q s.1.0.now t.1.0.now (same h k)

@@ -1,12 +1,13 @@
 -- A refusal leaves the buffer; else the listing is stored, which has room.
+use Rattle.std.proofs.lemmas.Result.{err_from_is_err_and}
 use Rattle.disassembler.specs.Verdicts.{refuses, fits, writes}
 use Rattle.disassembler.proofs.disassemble.Goals as goal
 
-pub returns-then-answer-ne-DONE : goal.returns-then-answer-ne-DONE
-returns-then-answer-ne-DONE c = refuses _ _ _ c.verdict-answer.ensures c.if-answer-ne-DONE.true
+pub returns-in_err-check : goal.returns-in_err-check
+returns-in_err-check c = let p = err_from_is_err_and c.from_residual.result c.from_residual.ensures.1 in rw (p.1, p.2) (refuses _ _ _ c.in_err-check.ensures)
 
-pub store_listing-length-requires : goal.store_listing-length-requires
-store_listing-length-requires c = fits _ _ _ c.verdict-answer.ensures c.if-answer-ne-DONE.false
+pub store_listing-requires : goal.store_listing-requires
+store_listing-requires c = fits _ _ c.in_ok-check.ensures
 
 pub returns : goal.returns
-returns c = writes _ _ _ c.verdict-answer.ensures c.if-answer-ne-DONE.false _ _ c.store_listing-length.ensures
+returns c = writes _ _ c.in_ok-check.ensures _ _ c.store_listing.ensures

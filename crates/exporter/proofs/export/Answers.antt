@@ -1,12 +1,13 @@
 -- A refusal leaves the buffer; else the text is put, which has room.
+use Rattle.std.proofs.lemmas.Result.{err_from_is_err_and}
 use Rattle.exporter.specs.Verdicts.{refuses, most, writes}
 use Rattle.exporter.proofs.export.Goals as goal
 
-pub returns-then-answer-ne-DONE : goal.returns-then-answer-ne-DONE
-returns-then-answer-ne-DONE c = refuses _ _ _ c.verdict-answer.ensures c.if-answer-ne-DONE.true
+pub returns-in_err-check : goal.returns-in_err-check
+returns-in_err-check c = let p = err_from_is_err_and c.from_residual.result c.from_residual.ensures.1 in rw (p.1, p.2) (refuses _ _ _ c.in_err-check.ensures)
 
-pub put_all-length-requires : goal.put_all-length-requires
-put_all-length-requires c = most _ _ _ c.verdict-answer.ensures c.if-answer-ne-DONE.false
+pub put_all-requires : goal.put_all-requires
+put_all-requires c = most _ _ c.in_ok-check.ensures
 
 pub returns : goal.returns
-returns c = writes _ _ _ c.verdict-answer.ensures c.if-answer-ne-DONE.false _ _ c.put_all-length.ensures
+returns c = writes _ _ c.in_ok-check.ensures _ _ c.put_all.ensures

@@ -9,13 +9,13 @@ use Rattle.std.specs.Prelude.{not}
 use Rattle.importer.proofs.finish.Goals as goal
 
 pub returns-then-not-ended : goal.returns-then-not-ended
-returns-then-not-ended c = no_end _ _ _ _ _ _ (ap not c.if-not-ended.true) _ c.bare.ensures
+returns-then-not-ended c = no_end _ _ _ _ _ _ (ap not c.if-not-ended.true)
 
 pub returns-then-past-eq0 : goal.returns-then-past-eq0
-returns-then-past-eq0 c = no_data _ _ _ _ _ _ (ap not c.if-not-ended.false) _ c.past-past.ensures c.if-past-eq0.true _ c.bare-then-past-eq0.ensures
+returns-then-past-eq0 c = no_data _ _ _ _ _ _ (ap not c.if-not-ended.false) _ c.past-past.ensures c.if-past-eq0.true
 
 pub returns-then-past-ne0 : goal.returns-then-past-ne0
-returns-then-past-ne0 c = part_word _ _ _ _ _ _ (ap not c.if-not-ended.false) _ c.past-past.ensures c.if-past-eq0.false c.if-past-ne0.true _ c.bare-then-past-ne0.ensures
+returns-then-past-ne0 c = part_word _ _ _ _ _ _ (ap not c.if-not-ended.false) _ c.past-past.ensures c.if-past-eq0.false c.if-past-ne0.true
 
 pub fill-requires : goal.fill-requires
 fill-requires c = (few_words _ _ c.past-past.ensures (omega arith), refl)
@@ -27,4 +27,4 @@ pub slice_bounds-write-end : goal.slice_bounds-write-end
 slice_bounds-write-end c = sym (length-take-le _ _ (words_there c.args.memory.now (replicate 2048 0) _ _ c.fill.ensures))
 
 pub returns : goal.returns
-returns c = image_written _ _ _ _ _ _ (ap not c.if-not-ended.false) _ c.past-past.ensures c.if-past-eq0.false c.if-past-ne0.false (omega arith) _ (words_put c.args.memory.now (replicate 2048 0) _ _ c.fill.ensures (ap (λ (x : ℕ). x / 4) c.past-past.ensures)) _ _ _ c.write-w.ensures
+returns c = image_written _ _ _ _ _ _ (ap not c.if-not-ended.false) _ c.past-past.ensures c.if-past-eq0.false c.if-past-ne0.false (omega arith) _ (words_put c.args.memory.now (replicate 2048 0) _ _ c.fill.ensures (ap (λ (x : ℕ). x / 4) c.past-past.ensures)) _ _ _ c.write.ensures

@@ -1,29 +1,18 @@
 -- The hash of what is left of the name, from the hash of what is passed.
-use mathlib.Core.Path.{refl, sym, ◌∙◌}
-use Prim.Native.Nat.{◌-◌}
-use native.Mathlib.Omega.{arith}
-use Rattle.tokens.specs.Names.{name_none, name_past}
-use Rattle.tokens.specs.Bytes.{none_folded, some_folded}
+use Rattle.std.proofs.Common.{sym, ◌∙◌, arith}
+use Rattle.tokens.specs.Names.{name_past, name_none}
+use Rattle.tokens.specs.Bytes.{is_gone, is_there, none_folded, some_folded}
 use Rattle.label_table.specs.Steps.{hash_more, hash_end}
 use Rattle.label_table.proofs.hash.Goals as goal
 
-pub loop-p-init : goal.loop-p-init
-loop-p-init c = (omega arith, refl)
-
-pub returns-then-folded-eq0 : goal.returns-then-folded-eq0
-returns-then-folded-eq0 c = let x = c.loop-p in let text = c.args.text.now in
-    let ends = name_none text x.p (none_folded _ (sym c.folded.ensures ∙ c.if-folded-eq0.true)) in
+pub returns-then-is_none : goal.returns-then-is_none
+returns-then-is_none c = let x = c.loop-p in let text = c.args.text.now in
+    let ends = name_none text x.p (none_folded _ (is_gone 0 _ _ c.folded.ensures _ c.is_none.ensures c.if-is_none.true)) in
     (sym (hash_end text x.h x.p ends) ∙ x.invariant.1, x.invariant.0)
-
-pub overflow_cast-h : goal.overflow_cast-h
-overflow_cast-h c = omega (arith, c.shared_slice_known-in-loop-p-1.given c.loop-p.p)
-
-pub overflow_add-h : goal.overflow_add-h
-overflow_add-h c = omega (arith, c.shared_slice_known-in-loop-p-1.given c.loop-p.p)
 
 pub loop-p-preserved : goal.loop-p-preserved
 loop-p-preserved c = let x = c.loop-p in let text = c.args.text.now in
-    (omega arith, sym (hash_more text x.h x.p (some_folded _ (λ z. c.if-folded-eq0.false (c.folded.ensures ∙ z)))) ∙ x.invariant.1)
+    (omega arith, rw c.from.ensures (sym (hash_more text x.h x.p (some_folded _ (is_there 0 _ _ c.folded.ensures _ c.is_none.ensures c.if-is_none.false))) ∙ x.invariant.1))
 
 pub returns : goal.returns
 returns c = let x = c.loop-p in let text = c.args.text.now in

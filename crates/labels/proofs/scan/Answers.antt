@@ -1,6 +1,5 @@
 -- What lies ahead of the place reached, counted from the first line, is what the whole text says.
 use mathlib.Core.Path.{sym}
-use Prim.Native.Nat.{◌-◌}
 use native.Mathlib.Omega.{arith}
 use Rattle.sources.proofs.Laws.PlaceLaws.{line_end_within}
 use Rattle.sources.proofs.Laws.FirstLaws.{ahead_start}
@@ -17,8 +16,8 @@ defines-requires c = c.shape-shape.ensures
 pub returns-then-defines : goal.returns-then-defines
 returns-then-defines c = scan_here _ _ _ _ _ c.loop-at.invariant.3 c.loop-at-test.true _ c.defines.ensures c.if-defines.true
 
-pub overflow_add-words : goal.overflow_add-words
-overflow_add-words c = let k = held_small _ _ c.held-words.ensures in omega (arith, k)
+pub overflow_add-definition-in-loop-at : goal.overflow_add-definition-in-loop-at
+overflow_add-definition-in-loop-at c = let k = held_small _ _ c.held.ensures in omega (arith, k)
 
 pub overflow_add-at : goal.overflow_add-at
 overflow_add-at c = let w = line_end_within _ _ c.loop-at-test.true _ c.line_end-at.ensures in omega (arith, w.1)
@@ -29,11 +28,11 @@ loop-at-smaller c = let w = line_end_within _ _ c.loop-at-test.true _ c.line_end
 pub loop-at-preserved : goal.loop-at-preserved
 loop-at-preserved c =
     let w = line_end_within _ _ c.loop-at-test.true _ c.line_end-at.ensures in
-    let k = held_small _ _ c.held-words.ensures in (
+    let k = held_small _ _ c.held.ensures in (
       omega (arith, w.1),
       omega (arith, w.0),
       omega (arith, k),
-      scan_next _ _ _ _ _ c.loop-at.invariant.3 c.loop-at-test.true _ c.defines.ensures c.if-defines.false _ _ _ c.shape-shape.ensures c.held-words.ensures c.line_end-at.ensures,
+      scan_next _ _ _ _ _ c.loop-at.invariant.3 c.loop-at-test.true _ c.defines.ensures c.if-defines.false _ _ _ c.shape-shape.ensures c.held.ensures c.line_end-at.ensures,
     )
 
 pub returns : goal.returns

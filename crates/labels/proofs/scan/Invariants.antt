@@ -10,7 +10,7 @@ use Rattle.labels.proofs.scan.Given as goal
 
 abbrev pub invariant-loop-at : goal.invariant-loop-at
 invariant-loop-at l =
-    (l.at ≤ length l.text + 1) × (l.line ≤ l.at) × (l.words ≤ l.line) × (first (name_at l.text l.place) (readings l.text) ≡ ahead l.text (name_at l.text l.place) l.at l.line l.words)
+    (l.at ≤ length l.text + 1) × (l.definition.line ≤ l.at) × (l.definition.words ≤ l.definition.line) × (first (name_at l.text l.place) (readings l.text) ≡ ahead l.text (name_at l.text l.place) l.at l.definition.line l.definition.words)
 
 abbrev pub decreases-loop-at : goal.decreases-loop-at
 decreases-loop-at l = length l.text + 1 - l.at

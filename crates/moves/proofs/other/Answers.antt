@@ -1,5 +1,5 @@
 -- `other`, arm by arm, by the laws of moves, with what an arm knows of the word: its fields, and the test whether the row fits.
-use Rattle.std.proofs.Common.{lit<}
+use Rattle.std.proofs.Common.{lit<, refl}
 use Rattle.moves.specs.MoveLaws as law
 use Rattle.moves.proofs.other.Goals as goal
 
@@ -29,35 +29,35 @@ bnz_move-requires c = law.low_small c.args.word c.fields-i.result c.fields-i.ens
 
 pub returns-then-fits : goal.returns-then-fits
 returns-then-fits c = law.fits c.args.word c.fields-i.result c.fields-i.ensures 0 c.in-0.is (lit< tt) _ c.fits.ensures _ _ _ _ _ _ _ _ _ _ c.if-fits.true
-    (law.nop _ _ _ _ _ _ _ _ _ _ _ c.in-0.is _ c.after.ensures c.goes.ensures)
+    (law.nop _ _ _ _ _ _ _ _ _ _ _ c.in-0.is _ refl c.goes.ensures)
 
 pub returns-else-fits : goal.returns-else-fits
 returns-else-fits c = law.stray c.args.word c.fields-i.result c.fields-i.ensures 0 c.in-0.is (lit< tt) _ c.fits.ensures _ _ _ _ _ _ _ _ _ _ c.if-fits.false c.stray.ensures
 
 pub returns-then-fits-2 : goal.returns-then-fits-2
 returns-then-fits-2 c = law.fits c.args.word c.fields-i.result c.fields-i.ensures 1 c.in-1.is (lit< tt) _ c.fits-in-1.ensures _ _ _ _ _ _ _ _ _ _ c.if-fits-2.true
-    (law.const _ _ _ _ _ _ _ _ _ _ _ c.in-1.is _ c.after-then-fits-2.ensures c.puts.ensures)
+    (law.const _ _ _ _ _ _ _ _ _ _ _ c.in-1.is _ refl c.puts.ensures)
 
 pub returns-else-fits-2 : goal.returns-else-fits-2
 returns-else-fits-2 c = law.stray c.args.word c.fields-i.result c.fields-i.ensures 1 c.in-1.is (lit< tt) _ c.fits-in-1.ensures _ _ _ _ _ _ _ _ _ _ c.if-fits-2.false c.stray-else-fits-2.ensures
 
 pub returns-then-fits-3 : goal.returns-then-fits-3
 returns-then-fits-3 c = law.fits c.args.word c.fields-i.result c.fields-i.ensures 2 c.in-2.is (lit< tt) _ c.fits-in-2.ensures _ _ _ _ _ _ _ _ _ _ c.if-fits-3.true
-    (law.mov _ _ _ _ _ _ _ _ _ _ _ c.in-2.is _ c.after-then-fits-3.ensures _ c.reg.ensures c.puts-then-fits-3.ensures)
+    (law.mov _ _ _ _ _ _ _ _ _ _ _ c.in-2.is _ refl _ c.reg.ensures c.puts-then-fits-3.ensures)
 
 pub returns-else-fits-3 : goal.returns-else-fits-3
 returns-else-fits-3 c = law.stray c.args.word c.fields-i.result c.fields-i.ensures 2 c.in-2.is (lit< tt) _ c.fits-in-2.ensures _ _ _ _ _ _ _ _ _ _ c.if-fits-3.false c.stray-else-fits-3.ensures
 
 pub returns-then-fits-4 : goal.returns-then-fits-4
 returns-then-fits-4 c = law.fits c.args.word c.fields-i.result c.fields-i.ensures 8 c.in-8.is (lit< tt) _ c.fits-in-8.ensures _ _ _ _ _ _ _ _ _ _ c.if-fits-4.true
-    (law.load _ _ _ _ _ _ _ _ _ _ _ c.in-8.is _ c.after-then-fits-4.ensures _ c.reg-then-fits-4.ensures c.load_move.ensures)
+    (law.load _ _ _ _ _ _ _ _ _ _ _ c.in-8.is _ refl _ c.reg-then-fits-4.ensures c.load_move.ensures)
 
 pub returns-else-fits-4 : goal.returns-else-fits-4
 returns-else-fits-4 c = law.stray c.args.word c.fields-i.result c.fields-i.ensures 8 c.in-8.is (lit< tt) _ c.fits-in-8.ensures _ _ _ _ _ _ _ _ _ _ c.if-fits-4.false c.stray-else-fits-4.ensures
 
 pub returns-then-fits-5 : goal.returns-then-fits-5
 returns-then-fits-5 c = law.fits c.args.word c.fields-i.result c.fields-i.ensures 9 c.in-9.is (lit< tt) _ c.fits-in-9.ensures _ _ _ _ _ _ _ _ _ _ c.if-fits-5.true
-    (law.store _ _ _ _ _ _ _ _ _ _ _ c.in-9.is _ c.after-then-fits-5.ensures _ c.reg-then-fits-5.ensures _ c.reg-then-fits-5-2.ensures c.store_move.ensures)
+    (law.store _ _ _ _ _ _ _ _ _ _ _ c.in-9.is _ refl _ c.reg-then-fits-5.ensures _ c.reg-then-fits-5-2.ensures c.store_move.ensures)
 
 pub returns-else-fits-5 : goal.returns-else-fits-5
 returns-else-fits-5 c = law.stray c.args.word c.fields-i.result c.fields-i.ensures 9 c.in-9.is (lit< tt) _ c.fits-in-9.ensures _ _ _ _ _ _ _ _ _ _ c.if-fits-5.false c.stray-else-fits-5.ensures
@@ -71,7 +71,7 @@ returns-else-fits-6 c = law.stray c.args.word c.fields-i.result c.fields-i.ensur
 
 pub returns-then-fits-7 : goal.returns-then-fits-7
 returns-then-fits-7 c = law.fits c.args.word c.fields-i.result c.fields-i.ensures 11 c.in-11.is (lit< tt) _ c.fits-in-11.ensures _ _ _ _ _ _ _ _ _ _ c.if-fits-7.true
-    (law.jal _ _ _ _ _ _ _ _ _ _ _ c.in-11.is _ c.reg-then-fits-7.ensures _ c.after-then-fits-7.ensures c.leaps-then-fits-7.ensures)
+    (law.jal _ _ _ _ _ _ _ _ _ _ _ c.in-11.is _ c.reg-then-fits-7.ensures _ refl c.leaps-then-fits-7.ensures)
 
 pub returns-else-fits-7 : goal.returns-else-fits-7
 returns-else-fits-7 c = law.stray c.args.word c.fields-i.result c.fields-i.ensures 11 c.in-11.is (lit< tt) _ c.fits-in-11.ensures _ _ _ _ _ _ _ _ _ _ c.if-fits-7.false c.stray-else-fits-7.ensures

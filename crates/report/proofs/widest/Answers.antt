@@ -1,28 +1,21 @@
--- The loop's maximum is that of the words behind it.
-use mathlib.Core.Path.{◌≡◌, ap, ◌∙◌}
-use Prim.Native.Nat.{ℕ, min}
-use native.Mathlib.Omega.{arith}
-use lib.ListN.{length}
+-- The most of the words before x.
+use Rattle.std.proofs.Common.{◌≡◌, ℕ, ◌∙◌, sym, ap, ap₂, min, max, length, arith}
 use Rattle.rules.specs.Counts.{most_below, widest}
-use Rattle.report.specs.CountLaws.{most_none, most_more}
+use Rattle.report.specs.CountLaws.{least, greatest, most_none, most_more}
 use Rattle.report.proofs.widest.Invariants.{at}
 use Rattle.report.proofs.widest.Goals as goal
-use Rattle.report.proofs.widest.Goals.{then-most-count, else-most-count}
 
 pub loop-x-init : goal.loop-x-init
-loop-x-init c = (omega arith, most_none _)
+loop-x-init c = most_none _
 
 pub loop-x-preserved : goal.loop-x-preserved
-loop-x-preserved c = let x = c.loop-x in
-    let g = c.args in
-    let f = at g.owners.now g.writers.now in
-    let m = most_more f x.x in
-    let n : c.writer_count-count.result ≡ f x.x = c.writer_count-count.ensures in
-    elim c.if-most-count.branch [ then-most-count w ↦ omega arith | else-most-count w ↦ omega arith ]
+loop-x-preserved c =
+    c.max-most.ensures ∙ greatest _ _ ∙ ap₂ max c.loop-x.invariant c.writer_count.ensures ∙ sym (most_more (at c.args.owners.now c.args.writers.now) c.loop-x.x)
 
 pub returns : goal.returns
 unfolding widest
-returns c = let x = c.loop-x in
-    let g = c.args in
-    let e : x.x ≡ min g.cpu.n (min (length g.owners.now) (length g.writers.now)) = omega arith in
-    x.invariant.1 ∙ ap (λ (k : ℕ). most_below k (at g.owners.now g.writers.now)) e
+returns c =
+    let p : c.min-places.result ≡ min c.args.cpu.n (min (length c.args.owners.now) (length c.args.writers.now)) =
+    c.min-places.ensures ∙ least _ _ ∙ ap (min c.args.cpu.n) (c.min.ensures ∙ least _ _) in
+    let e : c.loop-x.x ≡ min c.args.cpu.n (min (length c.args.owners.now) (length c.args.writers.now)) = omega arith in
+    c.loop-x.invariant ∙ ap (λ (k : ℕ). most_below k (at c.args.owners.now c.args.writers.now)) e

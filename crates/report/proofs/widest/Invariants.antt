@@ -1,8 +1,5 @@
--- The loop's maximum is that of the words behind it.
-use mathlib.Core.Path.{◌≡◌}
-use Prim.Native.Nat.{ℕ, ◌-◌, ◌≤◌}
-use lib.ListN.{get_or}
-use mathlib.Core.List.{List}
+-- The most of the words before x.
+use Rattle.std.proofs.Common.{◌≡◌, ℕ, List, get_or}
 use Rattle.rules.specs.Counts.{most_below, writer_count}
 use Rattle.report.proofs.widest.Given as goal
 
@@ -11,7 +8,4 @@ abbrev pub at : List ℕ → List ℕ → ℕ → ℕ
 at owners writers x = writer_count (get_or owners x 0) (get_or writers x 0)
 
 abbrev pub invariant-loop-x : goal.invariant-loop-x
-invariant-loop-x l = (l.x ≤ l.places) × (l.most ≡ most_below l.x (at l.owners l.writers))
-
-abbrev pub decreases-loop-x : goal.decreases-loop-x
-decreases-loop-x l = l.places - l.x
+invariant-loop-x l = l.most ≡ most_below l.x (at l.owners l.writers)

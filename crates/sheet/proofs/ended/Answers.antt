@@ -7,6 +7,6 @@ pub returns-then-t : goal.returns-then-t
 unfolding status
 returns-then-t c = simp (eq-eqb _ _ c.if-t.true)
 
-pub returns : goal.returns
+pub returns-else-t : goal.returns-else-t
 unfolding status
-returns c = simp (ne_eqb _ _ c.if-t.false)
+returns-else-t c = simp (ne_eqb _ _ c.if-t.false)

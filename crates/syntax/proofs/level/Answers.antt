@@ -1,25 +1,28 @@
 -- Case by case.
-use mathlib.Core.Path.{sym, ◌∙◌}
+use Rattle.std.proofs.Common.{◌≡◌, sym, ap, ◌∙◌, arith}
+use Rattle.tokens.specs.Kinds.{kind_number, other_kind}
 use Rattle.syntax.specs.Levels.{too_deep, deeper, not_open, shallower, at_none, not_outside, same}
 use Rattle.syntax.proofs.level.Goals as goal
 
-pub returns-then-depth-eq-DEEPEST : goal.returns-then-depth-eq-DEEPEST
-returns-then-depth-eq-DEEPEST c = too_deep _ _ c.if-kind-eq-LEFT.true c.if-depth-eq-DEEPEST.true
+pub returns-in-Left-clause-level : goal.returns-in-Left-clause-level
+returns-in-Left-clause-level c = too_deep _ _ (ap kind_number c.in-Left.is) c.if-depth-eq-DEEPEST.true
 
-pub returns-then-kind-eq-LEFT : goal.returns-then-kind-eq-LEFT
-returns-then-kind-eq-LEFT c = deeper _ _ c.if-kind-eq-LEFT.true c.if-depth-eq-DEEPEST.false
+pub returns-in-Left-2-clause-level : goal.returns-in-Left-2-clause-level
+returns-in-Left-2-clause-level c = deeper _ _ (ap kind_number c.in-Left.is) c.if-depth-eq-DEEPEST.false
 
-pub returns-then-depth-eq0 : goal.returns-then-depth-eq0
-returns-then-depth-eq0 c = not_open _ _ c.if-kind-eq-RIGHT.true c.if-depth-eq0.true
+pub returns-in-Right-clause-level : goal.returns-in-Right-clause-level
+returns-in-Right-clause-level c = not_open _ _ (ap kind_number c.in-Right.is) c.if-depth-eq0.true
 
-pub returns-then-kind-eq-RIGHT : goal.returns-then-kind-eq-RIGHT
-returns-then-kind-eq-RIGHT c = shallower _ _ c.if-kind-eq-RIGHT.true c.if-depth-eq0.false
+pub returns-in-Right-2-clause-level : goal.returns-in-Right-2-clause-level
+returns-in-Right-2-clause-level c = shallower _ _ (ap kind_number c.in-Right.is) c.if-depth-eq0.false
 
-pub returns-then-depth-eq0-2 : goal.returns-then-depth-eq0-2
-returns-then-depth-eq0-2 c = at_none _ c.if-kind-eq-LEFT.false c.if-kind-eq-RIGHT.false _ c.if-depth-eq0-2.true
+pub returns-in_default-clause-level : goal.returns-in_default-clause-level
+returns-in_default-clause-level c = not_outside _ (other_kind _ _ c.in_default.not-Left) (other_kind _ _ c.in_default.not-Right) _ (λ z. omega arith) (sym c.outside.ensures ∙ c.if-outside.true)
 
-pub returns-then-outside : goal.returns-then-outside
-returns-then-outside c = not_outside _ c.if-kind-eq-LEFT.false c.if-kind-eq-RIGHT.false _ c.if-depth-eq0-2.false (sym c.outside.ensures ∙ c.if-outside.true)
+pub returns-in_default-2-clause-level : goal.returns-in_default-2-clause-level
+returns-in_default-2-clause-level c = same _ (other_kind _ _ c.in_default.not-Left) (other_kind _ _ c.in_default.not-Right) _ (sym c.outside.ensures ∙ c.if-outside.false)
 
-pub returns : goal.returns
-returns c = same _ c.if-kind-eq-LEFT.false c.if-kind-eq-RIGHT.false _ (sym c.outside.ensures ∙ c.if-outside.false)
+pub returns-in_default-2-2-clause-level : goal.returns-in_default-2-2-clause-level
+returns-in_default-2-2-clause-level c =
+    let z : c.args.depth ≡ 0 = omega arith in
+    z ∙ at_none _ (other_kind _ _ c.in_default-2.not-Left) (other_kind _ _ c.in_default-2.not-Right) _ z

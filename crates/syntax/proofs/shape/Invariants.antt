@@ -7,8 +7,8 @@ use Rattle.sources.specs.Texts.{reading}
 use Rattle.syntax.specs.Passes.{Passing}
 use Rattle.syntax.proofs.shape.Given as goal
 
-abbrev pub invariant-loop-rows : goal.invariant-loop-rows
-invariant-loop-rows l = Passing l.text (shape_of (reading (line_at l.text l.at))) l.place l.state l.depth
+abbrev pub invariant-loop-behind : goal.invariant-loop-behind
+invariant-loop-behind l = Passing l.text (shape_of (reading (line_at l.text l.at))) l.place l.state l.depth
 
-abbrev pub decreases-loop-rows : goal.decreases-loop-rows
-decreases-loop-rows l = length l.text - l.place
+abbrev pub decreases-loop-behind : goal.decreases-loop-behind
+decreases-loop-behind l = length l.text - l.place

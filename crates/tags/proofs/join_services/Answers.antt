@@ -1,7 +1,8 @@
 -- Four services, each by its own test.
 use Rattle.tags.specs.TagLaws.{four_services}
 use Rattle.rules.specs.Step.{joined_services}
-use Rattle.common.specs.AddressSets.{set_at, in_set}
+use Rattle.common.specs.AddressSets.{in_set}
+use Rattle.address_sets.specs.SetLaws.{set_of}
 use native.Mathlib.Omega.{arith}
 use Rattle.tags.proofs.join_services.Goals as goal
 
@@ -9,5 +10,5 @@ pub returns : goal.returns
 unfolding joined_services
 returns c =
     let g = c.args in
-    simp (c.join_if-isolate.ensures, c.join_if-add_jump.ensures, c.join_if-add_store.ensures, c.join_if-add_read.ensures, c.has.ensures, c.has-2.ensures, c.has-3.ensures, c.has-4.ensures)
-    (four_services (in_set (set_at g.words.now g.q)) g.number g.services (omega arith))
+    simp (c.join_if-isolate.ensures, c.join_if-add_jump.ensures, c.join_if-add_store.ensures, c.join_if-add_read.ensures, c.contains.ensures, c.contains-2.ensures, c.contains-3.ensures, c.contains-4.ensures)
+    (four_services (in_set (set_of g.set.now)) g.number g.services (omega arith))

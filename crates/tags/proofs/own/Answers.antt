@@ -13,13 +13,13 @@ pub overflow_add-changes : goal.overflow_add-changes
 unfolding owned
 overflow_add-changes c =
     let left = c.own_pair-changes in
-    omega (arith, set_fits _ (λ v. refl) _ _ _ _ _ _ _ _ c.loop-j.invariant (omega arith) _ c.pair_at.ensures _ left.auto.owners left.ensures.0 _ left.ensures.1)
+    omega (arith, set_fits _ (λ v. refl) _ _ _ _ _ _ _ _ c.loop-j.invariant (omega arith) _ c.pair.ensures _ left.auto.owners left.ensures.0 _ left.ensures.1)
 
 pub loop-j-preserved : goal.loop-j-preserved
 unfolding owned
 loop-j-preserved c =
     let left = c.own_pair-changes in
-    set_goes _ (λ v. refl) _ _ _ _ _ _ _ _ c.loop-j.invariant (omega arith) _ c.pair_at.ensures _ left.auto.owners left.ensures.0 _ left.ensures.1
+    set_goes _ (λ v. refl) _ _ _ _ _ _ _ _ c.loop-j.invariant (omega arith) _ c.pair.ensures _ left.auto.owners left.ensures.0 _ left.ensures.1
 
 pub shape_of-owners : goal.shape_of-owners
 unfolding owned

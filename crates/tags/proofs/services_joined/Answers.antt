@@ -11,8 +11,8 @@ overflow_add-three c = omega (arith, c.differs-isolate.ensures.1, c.differs-add_
 pub overflow_add-three-2 : goal.overflow_add-three-2
 overflow_add-three-2 c = omega (arith, c.differs-isolate.ensures.1, c.differs-add_jump.ensures.1, c.differs-add_store.ensures.1)
 
-pub returns-then-not-strict : goal.returns-then-not-strict
-returns-then-not-strict c = three_differ _ c.args.before c.args.after _ _ _ c.differs-isolate.ensures.0 c.differs-add_jump.ensures.0 c.differs-add_store.ensures.0 (ap not c.if-not-strict.true)
+pub returns-else-strict : goal.returns-else-strict
+returns-else-strict c = three_differ _ c.args.before c.args.after _ _ _ c.differs-isolate.ensures.0 c.differs-add_jump.ensures.0 c.differs-add_store.ensures.0 (ap not c.if-strict.false)
 
 pub overflow_add-result : goal.overflow_add-result
 overflow_add-result c =
@@ -22,5 +22,5 @@ overflow_add-result c =
     let e = c.differs.ensures.1 in
     omega (arith, a, b, d, e)
 
-pub returns : goal.returns
-returns c = four_differ _ c.args.before c.args.after _ _ _ c.differs-isolate.ensures.0 c.differs-add_jump.ensures.0 c.differs-add_store.ensures.0 (ap not c.if-not-strict.false) _ c.differs.ensures.0
+pub returns-then-strict : goal.returns-then-strict
+returns-then-strict c = four_differ _ c.args.before c.args.after _ _ _ c.differs-isolate.ensures.0 c.differs-add_jump.ensures.0 c.differs-add_store.ensures.0 (ap not c.if-strict.true) _ c.differs.ensures.0

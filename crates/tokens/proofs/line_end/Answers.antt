@@ -1,19 +1,19 @@
--- No byte before the place reached is LF.
-use mathlib.Core.Bool.{not}
-use mathlib.Core.Path.{sym, ap, ◌∙◌}
-use Prim.Native.Nat.{◌-◌}
-use borrow.Author.Tests.{eq-eqb, ne_eqb}
-use Rattle.tokens.specs.Reading.{no_feed, line_run, run_turn, run_stops, run_past}
+-- The line ends at the next LF, or at the end.
+use Rattle.std.specs.Prelude.{eqb, drop}
+use Rattle.std.proofs.Common.{sym, ◌∙◌, arith}
+use Rattle.std.proofs.Math.ListN.{length-drop}
+use Rattle.std.proofs.lemmas.List.Quantifiers.{position-Some}
+use Rattle.tokens.specs.Reading.{no_feed, feed_ends, line_run, run_found, run_whole}
 use Rattle.tokens.proofs.line_end.Goals as goal
 
-pub loop-p-init : goal.loop-p-init
-loop-p-init c = line_run _ _
+pub overflow_add-result : goal.overflow_add-result
+overflow_add-result c =
+    let at = c.args.at in let text = c.args.text.now in
+    let k = position-Some (λ b. eqb b 10) (drop at text) c.in-Some.passed 0 (sym c.to_feed.ensures ∙ c.in-Some.is) in
+    omega (arith, k.0, length-drop at text)
 
-pub returns-then-text-p-eq10 : goal.returns-then-text-p-eq10
-returns-then-text-p-eq10 c = run_stops no_feed _ _ c.loop-p-test.true (ap not (eq-eqb _ _ c.if-text-p-eq10.true)) ∙ sym c.loop-p.invariant
+pub returns-in-Some : goal.returns-in-Some
+returns-in-Some c = run_found no_feed (λ b. eqb b 10) feed_ends _ _ _ (sym c.in-Some.is ∙ c.to_feed.ensures) ∙ sym (line_run _ _)
 
-pub loop-p-preserved : goal.loop-p-preserved
-loop-p-preserved c = c.loop-p.invariant ∙ run_turn no_feed _ _ c.loop-p-test.true (ap not (ne_eqb _ _ c.if-text-p-eq10.false))
-
-pub returns : goal.returns
-returns c = run_past no_feed _ _ c.loop-p-test.false ∙ sym c.loop-p.invariant
+pub returns-in-None : goal.returns-in-None
+returns-in-None c = c.max.ensures ∙ run_whole no_feed (λ b. eqb b 10) feed_ends _ _ (sym c.in-None.is ∙ c.to_feed.ensures) ∙ sym (line_run _ _)

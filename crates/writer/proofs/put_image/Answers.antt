@@ -1,23 +1,30 @@
 -- The length of the image says that each section has room where the one before ends.
 use native.Mathlib.Omega.{arith}
+use Rattle.std.proofs.Common.{ap, length}
 use Rattle.images.specs.Listed.{listed_short}
 use Rattle.images.specs.Sections.{length_image}
-use Rattle.writer.specs.Writing.{image_length, image_stored}
+use Rattle.writer.specs.Writing.{registers, image_length, image_stored}
 use Rattle.writer.proofs.put_image.Goals as goal
 
 pub put_section-registers-requires : goal.put_section-registers-requires
 put_section-registers-requires c = let g = c.args in
-    let l = length_image g.words.now g.regs.now g.entry in omega arith
+    let l = length_image g.words.now g.regs.now g.entry in (omega arith, omega arith)
+
+pub shared_ref_as_front-listed : goal.shared_ref_as_front-listed
+shared_ref_as_front-listed c = let s = listed_short c.args.regs.now in omega arith
 
 pub put_section-entries-requires : goal.put_section-entries-requires
 put_section-entries-requires c = let g = c.args in
     let l = length_image g.words.now g.regs.now g.entry in
     let s = listed_short g.regs.now in
-    omega arith
+    let t = ap length (registers g.words.now g.regs.now g.entry g.out.now _ c.listed_count-k.ensures) in
+    (omega arith, omega arith)
 
 pub put_section-requires : goal.put_section-requires
 put_section-requires c = let g = c.args in
-    let l = length_image g.words.now g.regs.now g.entry in omega arith
+    let l = length_image g.words.now g.regs.now g.entry in
+    let t = ap length (registers g.words.now g.regs.now g.entry g.out.now _ c.listed_count-k.ensures) in
+    (omega arith, omega arith)
 
 pub returns : goal.returns
 returns c = let g = c.args in

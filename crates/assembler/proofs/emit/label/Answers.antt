@@ -1,9 +1,13 @@
 -- Each return is a side of the definition.
-use Rattle.assembler.specs.EmitLaws.{label_twice, label_once}
+use Rattle.tokens.specs.Kinds.{seen}
+use Rattle.assembler.specs.EmitLaws.{label_twice, label_once, label_none}
 use Rattle.assembler.proofs.emit.label.Goals as goal
 
-pub returns-then-f-line : goal.returns-then-f-line
-returns-then-f-line c = label_twice _ _ _ _ _ c.token-t.ensures _ c.locate-f.ensures _ c.if-f-line.true c.bare.ensures
+pub returns-in-Some : goal.returns-in-Some
+returns-in-Some c = label_twice _ _ _ _ (seen c.token-t.result) c.token-t.ensures _ c.locate.ensures _ c.in-Some.is c.if-first-line.true
 
-pub returns : goal.returns
-returns c = label_once _ _ _ _ _ c.token-t.ensures _ c.locate-f.ensures _ c.if-f-line.false c.bare-2.ensures
+pub returns-in_default : goal.returns-in_default
+returns-in_default c = label_once _ _ _ _ (seen c.token-t.result) c.token-t.ensures _ c.locate.ensures _ c.in-Some.is c.if-first-line.false
+
+pub returns-in_default-2 : goal.returns-in_default-2
+returns-in_default-2 c = label_none _ _ _ _ (seen c.token-t.result) c.token-t.ensures _ c.locate.ensures c.in_default.is

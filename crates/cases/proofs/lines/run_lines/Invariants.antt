@@ -1,6 +1,6 @@
--- Each turn is one line less: every line ends after its start.
-use Rattle.std.proofs.Common.{length, ◌-◌}
+-- Each line that is read leaves less to read.
+use Rattle.std.proofs.Common.{length}
 use Rattle.cases.proofs.lines.run_lines.Given as goal
 
-abbrev pub decreases-loop-at : goal.decreases-loop-at
-decreases-loop-at l = length l.text - l.at
+abbrev pub decreases-loop-letter : goal.decreases-loop-letter
+decreases-loop-letter l = length l.rest

@@ -8,22 +8,22 @@ use Rattle.disassembler.proofs.lines.has_room.Goals as goal
 pub returns-then-words-room : goal.returns-then-words-room
 returns-then-words-room c = ample _ _ c.if-words-room.true
 
-pub loop-i-init : goal.loop-i-init
+pub loop-word-init : goal.loop-word-init
 unfolding listing
-loop-i-init c = (omega arith, omega arith)
+loop-word-init c = omega arith
 
 pub overflow_add-n : goal.overflow_add-n
 overflow_add-n c = let g = c.args in
     let f = listing_fits g.words.now in
-    let r = line_room g.words.now c.loop-i.i c.loop-i-test.true in omega arith
+    let r = line_room g.words.now c.loop-word.word-index (omega arith) in omega arith
 
-pub overflow_add-n-in-loop-i : goal.overflow_add-n-in-loop-i
-overflow_add-n-in-loop-i c = let g = c.args in
+pub overflow_add-n-in-loop-word : goal.overflow_add-n-in-loop-word
+overflow_add-n-in-loop-word c = let g = c.args in
     let f = listing_fits g.words.now in
-    let r = line_room g.words.now c.loop-i.i c.loop-i-test.true in omega arith
+    let r = line_room g.words.now c.loop-word.word-index (omega arith) in omega arith
 
-pub loop-i-preserved : goal.loop-i-preserved
-loop-i-preserved c = let l = length_more c.args.words.now c.loop-i.i c.loop-i-test.true in (omega arith, omega arith)
+pub loop-word-preserved : goal.loop-word-preserved
+loop-word-preserved c = let l = length_more c.args.words.now c.loop-word.word-index (omega arith) in omega arith
 
 pub returns : goal.returns
-returns c = measured c.args.words.now _ _ _ c.loop-i-test.false c.loop-i.invariant.1
+returns c = measured c.args.words.now _ _ _ c.loop-word-test.false c.loop-word.invariant

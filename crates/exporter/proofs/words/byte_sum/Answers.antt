@@ -1,7 +1,7 @@
 -- Four bytes, added up.
-use mathlib.Core.Path.{sym}
+use native.Mathlib.Omega.{arith}
 use Rattle.exporter.specs.Words.{sum_four}
 use Rattle.exporter.proofs.words.byte_sum.Goals as goal
 
 pub returns : goal.returns
-returns c = sym (sum_four c.args.w)
+returns c = let e = sum_four c.args.w _ c.to_le_bytes.ensures in omega arith

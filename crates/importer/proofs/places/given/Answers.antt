@@ -1,17 +1,18 @@
 -- No place before the one reached has its byte.
-use mathlib.Core.Path.{sym, ◌∙◌}
-use native.Mathlib.Omega.{arith}
-use Rattle.importer.specs.PlaceLaws.{given_starts, given_here, given_turn, given_ends}
+use Rattle.std.proofs.Common.{◌≡◌, ◌∙◌, sym, ap, arith, List, ℕ, ◌+◌, ◌-◌, take, drop}
+use Rattle.intel_hex.specs.Reading.{any_given}
+use Rattle.importer.specs.PlaceLaws.{given_here, given_turn, given_ends}
 use Rattle.importer.proofs.places.given.Goals as goal
 
-pub loop-i-init : goal.loop-i-init
-loop-i-init c = (omega arith, given_starts c.args.memory.now c.args.at c.args.n)
+-- so many places are sliced out
+sliced : (m : List ℕ) (at n : ℕ) → any_given (take (at + n - at) (drop at m)) ≡ any_given (take n (drop at m))
+sliced m at n = let k : at + n - at ≡ n = omega arith in ap (λ (x : ℕ). any_given (take x (drop at m))) k
 
-pub returns-then-memory-i-lt-NONE : goal.returns-then-memory-i-lt-NONE
-returns-then-memory-i-lt-NONE c = given_here _ _ _ c.loop-i-test.true c.loop-i.invariant.0 c.if-memory-i-lt-NONE.true ∙ sym c.loop-i.invariant.1
+pub returns-then-x-lt-NONE : goal.returns-then-x-lt-NONE
+returns-then-x-lt-NONE c = given_here _ _ c.loop-x-test.true c.if-x-lt-NONE.true ∙ sym c.loop-x.invariant ∙ sliced c.args.memory.now c.args.at c.args.n
 
-pub loop-i-preserved : goal.loop-i-preserved
-loop-i-preserved c = (c.loop-i.invariant.0, c.loop-i.invariant.1 ∙ given_turn _ _ _ c.loop-i-test.true c.loop-i.invariant.0 c.if-memory-i-lt-NONE.false)
+pub loop-x-preserved : goal.loop-x-preserved
+loop-x-preserved c = c.loop-x.invariant ∙ given_turn _ _ c.loop-x-test.true c.if-x-lt-NONE.false
 
 pub returns : goal.returns
-returns c = given_ends _ _ _ c.loop-i-test.false ∙ sym c.loop-i.invariant.1
+returns c = given_ends _ _ c.loop-x-test.false ∙ sym c.loop-x.invariant ∙ sliced c.args.memory.now c.args.at c.args.n

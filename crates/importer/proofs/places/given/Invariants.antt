@@ -1,12 +1,7 @@
 -- No place before the one reached has its byte.
-use mathlib.Core.Path.{◌≡◌}
-use Prim.Native.Nat.{◌-◌, ◌≤◌}
-use lib.ListN.{length}
-use Rattle.intel_hex.specs.Reading as hex
+use Rattle.std.proofs.Common.{◌≡◌, drop}
+use Rattle.intel_hex.specs.Reading.{any_given}
 use Rattle.importer.proofs.places.given.Given as goal
 
-abbrev pub invariant-loop-i : goal.invariant-loop-i
-invariant-loop-i l = (l.past ≤ length l.memory) × (hex.given l.memory l.at l.n ≡ hex.given l.memory l.i (l.past - l.i))
-
-abbrev pub decreases-loop-i : goal.decreases-loop-i
-decreases-loop-i l = l.past - l.i
+abbrev pub invariant-loop-x : goal.invariant-loop-x
+invariant-loop-x l = any_given l.places ≡ any_given (drop l.x-index l.places)

@@ -1,5 +1,7 @@
 -- The lines so far are said; the rest of the text says the rest.
 use native.Mathlib.Omega.{arith}
+use Rattle.std.proofs.Common.{refl}
+use Rattle.answers.specs.Results.{number-not-0}
 use Rattle.importer.specs.ReadLaws.{walk_starts, turn_refuses, turn_goes, walk_ends}
 use Rattle.sources.proofs.Laws.PlaceLaws.{line_end_within}
 use Rattle.importer.proofs.reading.read.Goals as goal
@@ -16,8 +18,8 @@ slice_bounds-bytes-start c = let w = line_end_within _ _ (omega arith) _ c.line_
 pub slice_bounds-bytes-end : goal.slice_bounds-bytes-end
 slice_bounds-bytes-end c = let w = line_end_within _ _ (omega arith) _ c.line_end-end.ensures in omega (arith, w.1)
 
-pub returns-then-s-ne-DONE : goal.returns-then-s-ne-DONE
-returns-then-s-ne-DONE c = turn_refuses _ _ c.loop-at-test.true _ c.line_end-end.ensures _ _ c.loop-at.invariant.2 _ c.take_line-s.ensures c.if-s-ne-DONE.true _
+pub returns-in-Err : goal.returns-in-Err
+returns-in-Err c = turn_refuses _ _ c.loop-at-test.true _ c.line_end-end.ensures _ _ c.loop-at.invariant.2 _ c.in-Err.ensures (number-not-0 _)
 
 pub overflow_add-at : goal.overflow_add-at
 overflow_add-at c = let w = line_end_within _ _ (omega arith) _ c.line_end-end.ensures in omega (arith, w.1)
@@ -30,7 +32,7 @@ loop-at-preserved c =
     let w = line_end_within _ _ (omega arith) _ c.line_end-end.ensures in (
       omega (arith, w.0),
       omega (arith, w.1),
-      turn_goes _ _ c.loop-at-test.true _ c.line_end-end.ensures _ _ c.loop-at.invariant.2 _ c.take_line-s.ensures c.if-s-ne-DONE.false,
+      turn_goes _ _ c.loop-at-test.true _ c.line_end-end.ensures _ _ c.loop-at.invariant.2 _ c.in_default.ensures refl,
     )
 
 pub returns : goal.returns

@@ -5,4 +5,4 @@ use lib.ListN.{replicate}
 use Rattle.machine.proofs.Processor.run.Goals as goal
 
 pub returns : goal.returns
-returns c = unseen _ _ (replicate 64 (replicate 3 0)) refl _ c.run_rows.ensures
+returns c = unseen _ _ (replicate 64 (record { owned = 0; jump = 0; store = 0 })) refl _ c.run_rows.ensures

@@ -1,5 +1,5 @@
 -- The numbers of the set below the one reached are put.
-use Rattle.std.proofs.Common.{ℕ, ◌+◌, ◌-◌, ◌≤◌, ap, arith}
+use Rattle.std.proofs.Common.{ℕ, ◌+◌, ◌≤◌, ap, arith}
 use Rattle.text.specs.Puts.{put_length, put_within}
 use Rattle.sheet.specs.LineLaws.{begun, number_more, numbers_put, next_above}
 use Rattle.sheet.proofs.lines.put_numbers.Goals as goal

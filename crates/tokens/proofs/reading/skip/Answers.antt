@@ -1,20 +1,23 @@
--- Each byte before the place reached is a blank.
-use mathlib.Core.Path.{refl, sym, ◌∙◌}
-use Prim.Native.Nat.{◌-◌}
+-- The first byte that is no blank, or the end.
+use Rattle.std.specs.Prelude.{not, drop}
+use Rattle.std.proofs.Common.{refl, sym, ◌∙◌, arith}
+use Rattle.std.proofs.Math.ListN.{length-drop}
+use Rattle.std.proofs.lemmas.List.Quantifiers.{position-Some}
 use Rattle.grammar.specs.Spelling.{blank}
-use Rattle.tokens.specs.Reading.{run_turn, run_stops, run_past}
 use Rattle.tokens.specs.Streams.{skipped}
+use Rattle.tokens.specs.Reading.{run_found, run_whole}
 use Rattle.tokens.proofs.reading.skip.Goals as goal
 
-pub loop-p-init : goal.loop-p-init
+pub overflow_add-result : goal.overflow_add-result
+overflow_add-result c =
+    let at = c.args.at in let text = c.args.text.now in
+    let k = position-Some (λ b. not (blank b)) (drop at text) c.in-Some.passed 0 (sym c.blanks.ensures ∙ c.in-Some.is) in
+    omega (arith, k.0, length-drop at text)
+
+pub returns-in-Some : goal.returns-in-Some
 unfolding skipped
-loop-p-init c = refl
+returns-in-Some c = run_found blank (λ b. not (blank b)) (λ b. refl) _ _ _ (sym c.in-Some.is ∙ c.blanks.ensures)
 
-pub returns-then-not-blank : goal.returns-then-not-blank
-returns-then-not-blank c = run_stops blank _ _ c.loop-p-test.true (sym c.blank.ensures ∙ c.if-not-blank.true) ∙ sym c.loop-p.invariant
-
-pub loop-p-preserved : goal.loop-p-preserved
-loop-p-preserved c = c.loop-p.invariant ∙ run_turn blank _ _ c.loop-p-test.true (sym c.blank.ensures ∙ c.if-not-blank.false)
-
-pub returns : goal.returns
-returns c = run_past blank _ _ c.loop-p-test.false ∙ sym c.loop-p.invariant
+pub returns-in-None : goal.returns-in-None
+unfolding skipped
+returns-in-None c = c.max.ensures ∙ run_whole blank (λ b. not (blank b)) (λ b. refl) _ _ (sym c.in-None.is ∙ c.blanks.ensures)

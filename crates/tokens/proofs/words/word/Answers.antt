@@ -3,4 +3,4 @@ use Rattle.tokens.specs.Words.{word_known}
 use Rattle.tokens.proofs.words.word.Goals as goal
 
 pub returns : goal.returns
-returns c = word_known _ _ _ c.spelled-s.ensures _ c.known-k.ensures
+returns c = word_known _ _ _ c.spelled-s.ensures _ c.known-kind.ensures

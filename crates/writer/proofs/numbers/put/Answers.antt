@@ -1,17 +1,9 @@
--- Four stores, one after the other.
+-- Four bytes, stored together.
 use native.Mathlib.Omega.{arith}
-use lib.ListN.{length-set}
-use Rattle.writer.specs.Stores.{four_stores}
+use Rattle.std.proofs.Common.{refl, ◌∙◌}
+use Rattle.writer.specs.Stores.{number_stored}
 use Rattle.writer.proofs.numbers.put.Goals as goal
 
-pub bounds-out-at-2 : goal.bounds-out-at-2
-bounds-out-at-2 c = simp length-set (omega arith)
-
-pub bounds-out-at-3 : goal.bounds-out-at-3
-bounds-out-at-3 c = simp length-set (omega arith)
-
-pub bounds-out-at-4 : goal.bounds-out-at-4
-bounds-out-at-4 c = simp length-set (omega arith)
-
 pub returns : goal.returns
-returns c = four_stores c.args.out.now c.args.at c.args.x
+returns c = let g = c.args in
+    (refl, number_stored g.out.now _ g.at _ g.x (c.copy_from_slice.ensures.after ∙ c.to_le_bytes.ensures) (omega arith) (omega arith))

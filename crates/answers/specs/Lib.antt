@@ -1,0 +1,4 @@
+-- ---- the numbers of the refusals
+pub mod Numbers
+pub mod Results
+pub mod Laws

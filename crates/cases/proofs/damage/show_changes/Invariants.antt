@@ -1,6 +1,0 @@
--- Each turn is one byte less.
-use Rattle.std.proofs.Common.{length, ◌-◌}
-use Rattle.cases.proofs.damage.show_changes.Given as goal
-
-abbrev pub decreases-loop-i : goal.decreases-loop-i
-decreases-loop-i l = length l.initial.bytes - l.i

@@ -1,6 +1,0 @@
--- The numbers before c were looked at.
-use Rattle.std.proofs.Common.{◌-◌}
-use Rattle.grants.proofs.tell_numbers.Given as goal
-
-abbrev pub decreases-loop-c : goal.decreases-loop-c
-decreases-loop-c l = 64 - l.c

@@ -1,0 +1,2 @@
+-- ---- what a run's answer comes to
+pub mod Status

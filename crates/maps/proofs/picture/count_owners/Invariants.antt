@@ -1,6 +1,0 @@
--- The compartments before c were looked at.
-use Rattle.std.proofs.Common.{◌-◌}
-use Rattle.maps.proofs.picture.count_owners.Given as goal
-
-abbrev pub decreases-loop-c : goal.decreases-loop-c
-decreases-loop-c l = 64 - l.c

@@ -1,6 +1,0 @@
--- The places before i are filled.
-use Rattle.std.proofs.Common.{◌-◌}
-use Rattle.maps.proofs.plain.put_owners.Given as goal
-
-abbrev pub decreases-loop-i : goal.decreases-loop-i
-decreases-loop-i l = 64 - l.i
