@@ -22,3 +22,4 @@ pub mod CodeRows
 pub mod CodeSheets
 pub mod Checking
 pub mod Once
+pub mod Branching

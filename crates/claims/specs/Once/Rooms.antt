@@ -15,11 +15,13 @@ use Rattle.machine.specs.Views.{processor_of}
 use Rattle.loader.specs.declared.Loaded.{Loaded}
 use Rattle.loader.specs.declared.room.Room.{Room}
 use Rattle.loader.proofs.room.Room.new.Reads as new
+use Rattle.loader.proofs.room.Room.lent.Reads as lent
 use Rattle.loader.proofs.room.Room.load.Reads as load
 use Rattle.loader.proofs.room.Room.load_rows.Reads as load_rows
 use Rattle.loader.proofs.room.Room.run.Reads as run
 use Rattle.loader.proofs.room.Room.run_rows.Reads as run_rows
 use Rattle.loader.proofs.room.Room.step.Reads as step
+use Rattle.claims.specs.Memories.{Lists}
 use Rattle.claims.specs.Once.Machine.{one_answer}
 use Rattle.claims.specs.Allowed.{Once, same, same_by}
 
@@ -29,6 +31,11 @@ module _ (n : ℕ) (fits : Fits w64 n) where
 
   pub new_once : Once (new.Post n fits) (λ κs r s. r)
   new_once κs a r q s t = same
+
+  -- what is lent
+  pub lent_once : Once (lent.Post n fits) {Out = Lists} (λ κs r s. (r.words.now, (r.owners.now, r.jumpers.now, r.writers.now, r.readers.now)))
+  lent_once κs a r q s t h k =
+      λ i. (same h.0 k.0 i, (same h.1.0 k.1.0 i, same h.1.1.0 k.1.1.0 i, same h.1.1.1.0 k.1.1.1.0 i, same h.1.1.1.1 k.1.1.1.1 i))
 
   pub load_once : Once (load.Post n fits) {Out = Loaded × Room n} (λ κs r s. (r, s.0.now))
   load_once κs a r q s t h k =
