@@ -27,9 +27,9 @@ use Rattle.rights.specs.Arrivals.{prev_of, jumped_of, unasked, unasked_far, unas
 use Rattle.moves.specs.Moves.{move_from, home_move}
 use Rattle.memory.specs.Places.{put_reg, put_word}
 use Rattle.moves.specs.Applied.{move_at, move_stops, move_runs, move_free}
-use Rattle.service.specs.Served.{state_from, Serving, told as told-of, serving}
+use Rattle.service.specs.Served.{state_from, Serving, serving}
 use Rattle.service.specs.ServiceLaws.{back_with, serving_stops, serving_runs}
-use Rattle.service.specs.ServingRows.{told_rows}
+use Rattle.service.specs.ServingRows.{serving_rows}
 use Rattle.form.specs.Form.{form_of, formed_by_lem}
 
 -- ---- a run that goes on after count steps
@@ -200,7 +200,7 @@ module _ (s₀ : State) (rows₀ : List Row) (s : State) (rows : List Row) (budg
         subst (λ (v : Move). Home s.cpu.strict v.arrival s.cpu.next) (sym e) (move_free s g.form z)
 
   -- elsewhere: o is what the step at a service came to
-  module _ (h : count < budget) (k : s.cpu.n ≤ s.cpu.pc) (o : Serving) (e : o ≡ told-of (serving s)) where
+  module _ (h : count < budget) (k : s.cpu.n ≤ s.cpu.pc) (o : Serving) (e : o ≡ serving s) where
     pub service_stops : o.answer ≢ answer.done
         → record { answer = o.answer; state = record { cpu = s.cpu; words = s.words; owners = o.owners; jumpers = o.jumpers; writers = o.writers; readers = o.readers }; rows = rows; count = count } ≡ lent_run budget s₀ rows₀
     service_stops a = stops h (record { answer = o.answer; state = record { cpu = s.cpu; words = s.words; owners = o.owners; jumpers = o.jumpers; writers = o.writers; readers = o.readers } }) (serving_stops s g.form k o e a) a
@@ -210,7 +210,7 @@ module _ (s₀ : State) (rows₀ : List Row) (s : State) (rows : List Row) (budg
     service_turns a caller q rows' w =
         let r = serving_runs s g.form k o e a in
         turns h (record { answer = o.answer; state = record { cpu = back_with s.cpu o.number o.next o.services; words = s.words; owners = o.owners; jumpers = o.jumpers; writers = o.writers; readers = o.readers } }) r a rows'
-        (w ∙ ap (λ (x : ℕ). settled x o.to o.owned o.jump o.store rows) q ∙ told_rows s g.form k o e a rows ∙ ap (λ (x : Stepped). moved s x.state rows) (sym r))
+        (w ∙ ap (λ (x : ℕ). settled x o.to o.owned o.jump o.store rows) q ∙ serving_rows s g.form k o e a rows ∙ ap (λ (x : Stepped). moved s x.state rows) (sym r))
 
 -- ---- the state by the arrival that the code keeps
 
@@ -226,7 +226,7 @@ module _ (strict : Bool) (regs : List ℕ) (n pc next : ℕ) (services words own
   arrived h e s₀ rows₀ rows budget count g = simp (e, unasked_prev prev h jumped, unasked_jumped prev h jumped) g
 
   -- taken apart for a service
-  pub called : prev ≡ prev_of arrival → jumped ≡ jumped_of arrival → (o : Serving) → o ≡ told-of (serving told) → o ≡ told-of (serving kept)
+  pub called : prev ≡ prev_of arrival → jumped ≡ jumped_of arrival → (o : Serving) → o ≡ serving told → o ≡ serving kept
   called ep ej o e = simp (← ep, ← ej) e
 
 -- at the end of the loop over services the numbers are those of its head or of the loop inside it

@@ -171,24 +171,11 @@ impl Processor {
                 services,
             };
             let jumped = arrival::jumped_of(arrival);
-            let s = match service::serve(
-                &call, pc, jumped, words, owners, jumpers, writers, readers,
-            ) {
-                Ok(s) => s,
-                Err(refusal) => {
-                    return ended(
-                        n,
-                        strict,
-                        regs,
-                        pc,
-                        arrival,
-                        next,
-                        services,
-                        u32::from(refusal),
-                        count,
-                    );
-                }
-            };
+            let s = service::serve(&call, pc, jumped, words, owners, jumpers, writers, readers);
+            let answer = answers::answer_of(&s.answer);
+            if answer != answers::DONE {
+                return ended(n, strict, regs, pc, arrival, next, services, answer, count);
+            }
             rows::settle(rows, caller, s.to, s.owned, s.jump, s.store);
             pc = regs[15];
             arrival = arrival::unasked(s.number, true);

@@ -12,7 +12,7 @@ use Rattle.answers.specs.declared.Refusal.{Refusal}
 use Rattle.answers.specs.Numbers.{number}
 use Rattle.monitor.specs.declared.Isolated.{Isolated}
 -- the caller's numbers and the lent memories, at a service
-pub use Rattle.reach.specs.Called.{called, called_by, lent_to}
+pub use Rattle.reach.specs.Called.{called, called_by, lent_with}
 
 -- ---- isolate: the answer, the services' sets, the four memories of tags, and how many of the owners, the sets I and the sets W changed
 

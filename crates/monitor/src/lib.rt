@@ -6,7 +6,7 @@ ghost use Rattle.rules.specs.Laws.Tested.{isolate_verdict};
 ghost use Rattle.rules.specs.Step.{joined};
 ghost use Rattle.answers.specs.Numbers.{answer_of};
 ghost use Rattle.address_sets.specs.SetLaws.{set_of};
-ghost use Rattle.monitor.specs.Outcomes.{called_by, lent_to, isolating, isolating_of, adding, adding_of};
+ghost use Rattle.monitor.specs.Outcomes.{called_by, lent_with, isolating, isolating_of, adding, adding_of};
 
 use address_sets::AddressSet;
 use answers::Refusal;
@@ -26,9 +26,9 @@ pub struct Isolated {
 }
 
 // The checks of isolate in the sheet's order.
-#[tactic(auto, unfolding(rules::specs::Laws::Tested::isolate_verdict))]
-pub fn isolate_verdict(call: &Call, lent: &Memories) -> Result<(), Refusal>
-    ensures { answer_of result ≡ isolate_verdict (lent_to call.now lent.now) call.now.caller.number }
+#[tactic(auto, using(reach::specs::ReachLaws::good_with, reach::specs::ReachLaws::returns_with), unfolding(rules::specs::Laws::Tested::isolate_verdict))]
+pub fn isolate_verdict(call: &Call, services: &[u64], lent: &Memories) -> Result<(), Refusal>
+    ensures { answer_of result ≡ isolate_verdict (lent_with call.now services.now lent.now) call.now.caller.number }
 {
     if !call.all_good(lent) {
         return Err(Refusal::BadSet);
@@ -36,7 +36,7 @@ pub fn isolate_verdict(call: &Call, lent: &Memories) -> Result<(), Refusal>
     if call.set(1, lent.words).is_empty() {
         return Err(Refusal::EmptySet);
     }
-    if !call.all_within(lent) {
+    if !call.all_within(services, lent) {
         return Err(Refusal::NotWithin);
     }
     if !call.returns(lent) {
@@ -77,7 +77,7 @@ pub fn isolate(
         writers,
         readers,
     };
-    isolate_verdict(call, &lent)?;
+    isolate_verdict(call, &call.services, &lent)?;
     let n = call.caller.n;
     let strict = call.caller.strict;
     let child = call.next;

@@ -19,12 +19,16 @@ called strict regs n caller next services words owners jumpers writers readers =
       readers = readers;
     }
 
--- the state of a call and of what it is lent: by lists, and for reading
+-- the state of a call and of what it is lent: by lists, and for reading, with sets of the services of its own or with others
 abbrev pub called_by : Call → List ℕ → List ℕ → List ℕ → List ℕ → List ℕ → State
 called_by k = called k.caller.strict k.regs.now k.caller.n k.caller.number k.next k.services
 
+abbrev pub lent_with : Call → List ℕ → Memories → State
+lent_with k services lent =
+    called k.caller.strict k.regs.now k.caller.n k.caller.number k.next services lent.words.now lent.owners.now lent.jumpers.now lent.writers.now lent.readers.now
+
 abbrev pub lent_to : Call → Memories → State
-lent_to k lent = called_by k lent.words.now lent.owners.now lent.jumpers.now lent.writers.now lent.readers.now
+lent_to k = lent_with k k.services
 
 -- what the owners, and the sets at words and services, say
 abbrev pub asked : Bool → ℕ → List ℕ → List ℕ → List ℕ → State

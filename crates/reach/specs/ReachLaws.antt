@@ -13,10 +13,12 @@ use Rattle.common.specs.AddressSets.{Pair, set_at, in_set, within}
 use Rattle.common.proofs.Laws.AddressSetLaws.{within_if}
 use Rattle.rules.specs.Compartments.{member, empty}
 use Rattle.rules.specs.Laws.CompartmentLaws.{member_empty}
-use Rattle.rules.specs.State.{State, in_memory, has_owner, owner_at, jumpers_at, writers_at, owns, may_jump, may_store, may_read}
-use Rattle.rules.specs.Checks.{set_a, set_j, set_s, sets_within, returns}
+use Rattle.rules.specs.State.{State, in_memory, has_owner, owner_at, jumpers_at, writers_at, readers_at, owns, may_jump, may_store, may_read, reads}
+use Rattle.rules.specs.Checks.{set_a, set_j, set_s, good_sets, sets_within, returns}
 use Rattle.rules.proofs.Laws.JoinLaws.{read_strict}
-use Rattle.reach.specs.Called.{asked, reaches}
+use Rattle.memory.specs.declared.Memories.{Memories}
+use Rattle.reach.specs.declared.Call.{Call}
+use Rattle.reach.specs.Called.{lent_to, lent_with, asked, reaches}
 
 -- ---- owners and sets, apart from the rest of the state
 
@@ -36,6 +38,16 @@ module _ (m : Bool) (n : ℕ) (owners sets services : List ℕ) (c x : ℕ) (a :
       → b ≡ reaches (asked m n owners sets services) c x
   unfolding may_jump jumpers_at in_memory
   reached_by h set f b g = let e : owns (asked m n owners sets services) c x ≡ false = owned ∙ h in g ∙ ap (λ (k : ℕ). member k c) f ∙ simp e
+
+-- whether sets are good, and whether a call returns, does not hang on the sets of the services
+module _ (k : Call) (services : List ℕ) (lent : Memories) where
+  pub good_with : good_sets (lent_to k lent) k.caller.number ≡ good_sets (lent_with k services lent) k.caller.number
+  unfolding good_sets reads owns has_owner owner_at in_memory may_read readers_at
+  good_with = refl
+
+  pub returns_with : returns (lent_to k lent) k.caller.number ≡ returns (lent_with k services lent) k.caller.number
+  unfolding returns owns has_owner owner_at in_memory
+  returns_with = refl
 
 -- a word of which the owner is known, and its set
 module _ (m : Bool) (n : ℕ) (owners sets services : List ℕ) (c x : ℕ) (h : x < n) where

@@ -8,7 +8,7 @@ ghost use Rattle.common.specs.AddressSets.{set_at, all_from, good_set, within};
 ghost use Rattle.rules.specs.State.{owns, jumpers_at, reads};
 ghost use Rattle.rules.specs.Checks.{good_in, good_sets, sets_within, returns};
 ghost use Rattle.address_sets.specs.SetLaws.{set_of};
-ghost use Rattle.reach.specs.Called.{asked, asked_by, reading, reaches, lent_to};
+ghost use Rattle.reach.specs.Called.{asked, asked_by, reading, reaches, lent_to, lent_with};
 
 use address_sets::{AddressSet, Pair, clipped};
 use compartments::Set;
@@ -171,10 +171,10 @@ impl Call<'_> {
     }
 
     // Whether the caller may give the sets away: all of A' is its own, and all of J', of S' and in strict mode of R' is its own or open to
-    // it by grants.
+    // it by grants; `services` has the sets of the services.
     #[tactic(auto, using(crate::specs::ReachLaws::sets_within_lem))]
-    pub fn all_within(&self, lent: &Memories) -> bool
-        ensures { result ≡ sets_within (lent_to self.now lent.now) self.now.caller.number }
+    pub fn all_within(&self, services: &[u64], lent: &Memories) -> bool
+        ensures { result ≡ sets_within (lent_with self.now services.now lent.now) self.now.caller.number }
     {
         let owned = Tags {
             owners: lent.owners,
@@ -183,7 +183,7 @@ impl Call<'_> {
         };
         let jumped = Tags {
             sets: lent.jumpers,
-            services: &self.services,
+            services,
             ..owned
         };
         let stored = Tags {

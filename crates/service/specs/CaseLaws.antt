@@ -1,22 +1,22 @@
 -- The cases of a step at a service, each in the form in which the code comes to it.
-use Rattle.std.specs.Prelude.{◌≡◌, ℕ, true, false, ◌≢◌, List}
-use Rattle.std.proofs.Common.{sym, ◌∙◌}
+use Rattle.std.specs.Prelude.{◌≡◌, refl, ℕ, true, false, ◌≢◌, List, Result, Ok, Err}
+use Rattle.std.specs.Result.{result_and, result_unwrap_or}
 use borrow.Author.Tests.{ne_eqb}
 use Rattle.common.specs.Answers as answer
 use Rattle.common.specs.Services as service
 use Rattle.rules.specs.State.{State}
 use Rattle.answers.specs.declared.Refusal.{Refusal}
-use Rattle.answers.specs.Numbers.{number}
+use Rattle.answers.specs.Numbers.{number, answer_of}
 use Rattle.answers.specs.Results.{number-not-0}
-use Rattle.monitor.specs.Outcomes.{Isolating, not_isolated, Adding}
-use Rattle.service.specs.Served.{isolated_by, grown, Serving, told, call_of, add_of, isolates, adds_jump, adds_store, adds_read, nowhere, serving}
+use Rattle.monitor.specs.Outcomes.{Isolating, not_isolated, Adding, adding_of}
+use Rattle.service.specs.Served.{isolated_by, grown, call_of, add_of, isolates, adds_jump, adds_store, adds_read, nowhere, serving}
+
+-- what an add comes to, by the parts of its result that `serve` hands on
+pub added : {A : Type 0} (a : A) (r : Result ℕ Refusal) (sets : List ℕ) → record { answer = answer_of (result_and r (Ok a)); sets = sets; joined = result_unwrap_or r 0 } ≡ adding_of r sets
+added a (Ok joined) sets = refl
+added a (Err refusal) sets = refl
 
 module _ (s : State) where
-  -- what is told where the answer is a refusal
-  pub stops : (o : Serving) (r : Refusal) → o.answer ≡ number r → o ≡ serving s
-      → record { answer = o.answer; number = 0; next = o.next; services = o.services; owners = o.owners; jumpers = o.jumpers; writers = o.writers; readers = o.readers; to = 0; owned = o.owned; jump = o.jump; store = o.store } ≡ told (serving s)
-  stops o r a e = let n = ne_eqb o.answer answer.done (λ z. number-not-0 r (sym a ∙ z)) in simp (← e, n)
-
   -- ---- which service it is
 
   pub at_isolate_lem : s.cpu.pc ≡ service.isolate → (o : Isolating) → o ≡ isolated_by s.cpu.jumped (call_of s) → isolates s o ≡ serving s
@@ -25,7 +25,7 @@ module _ (s : State) where
 
   -- next stays where isolate refuses
   pub refuses : s.cpu.pc ≡ service.isolate → (r : Refusal) (owners jumpers writers readers : List ℕ) → not_isolated (number r) s.cpu.services owners jumpers writers readers ≡ isolated_by s.cpu.jumped (call_of s)
-      → record { answer = number r; number = 0; next = s.cpu.next; services = s.cpu.services; owners = owners; jumpers = jumpers; writers = writers; readers = readers; to = 0; owned = 0; jump = 0; store = 0 } ≡ told (serving s)
+      → record { answer = number r; number = 1; next = s.cpu.next; services = s.cpu.services; owners = owners; jumpers = jumpers; writers = writers; readers = readers; to = s.cpu.next; owned = 0; jump = 0; store = 0 } ≡ serving s
   unfolding serving grown
   refuses h r owners jumpers writers readers e = let n = ne_eqb (number r) answer.done (number-not-0 r) in simp (h, ← e, n)
 

@@ -1,12 +1,11 @@
 -- What a step at a service comes to, and what is seen of it.
-use Rattle.std.specs.Prelude.{ℕ, Bool, cond, ◌&&◌, List, [], ◌==◌, slice_index_or, Result, Ok, Err}
+use Rattle.std.specs.Prelude.{ℕ, Bool, cond, ◌&&◌, List, [], ◌==◌, slice_index_or}
 use Rattle.common.specs.Answers as answer
 use Rattle.common.specs.Instructions.{plus}
 use Rattle.common.specs.Services as service
 use Rattle.rules.specs.Compartments.{member, empty}
 use Rattle.rules.specs.State.{State}
-use Rattle.answers.specs.declared.Refusal.{Refusal}
-use Rattle.answers.specs.Numbers.{number}
+use Rattle.answers.specs.Numbers.{answer_of}
 use Rattle.reach.specs.declared.Call.{Call}
 use Rattle.monitor.specs.Outcomes.{called, Isolating, not_isolated, isolating, Adding, adding}
 use Rattle.service.specs.declared.Served.{Served}
@@ -59,17 +58,9 @@ pub record Serving : Type 0 where
   pub jump : ℕ
   pub store : ℕ
 
--- a stop has neither a number nor one who gains
-abbrev pub told : Serving → Serving
-told o =
-    cond (o.answer == answer.done) o
-    (record { answer = o.answer; number = 0; next = o.next; services = o.services; owners = o.owners; jumpers = o.jumpers; writers = o.writers; readers = o.readers; to = 0; owned = o.owned; jump = o.jump; store = o.store })
-
-abbrev pub served_of : Call → Result Served Refusal → List ℕ → List ℕ → List ℕ → List ℕ → Serving
-served_of k (Ok r) owners jumpers writers readers =
-    record { answer = answer.done; number = r.number; next = r.next; services = r.services; owners = owners; jumpers = jumpers; writers = writers; readers = readers; to = r.to; owned = r.owned; jump = r.jump; store = r.store }
-served_of k (Err refusal) owners jumpers writers readers =
-    record { answer = number refusal; number = 0; next = k.next; services = k.services; owners = owners; jumpers = jumpers; writers = writers; readers = readers; to = 0; owned = 0; jump = 0; store = 0 }
+abbrev pub served_of : Served → List ℕ → List ℕ → List ℕ → List ℕ → Serving
+served_of r owners jumpers writers readers =
+    record { answer = answer_of r.answer; number = r.number; next = r.next; services = r.services; owners = owners; jumpers = jumpers; writers = writers; readers = readers; to = r.to; owned = r.owned; jump = r.jump; store = r.store }
 
 abbrev pub call_of : State → State
 call_of s = called s.cpu.strict s.cpu.regs s.cpu.n s.cpu.prev s.cpu.next s.cpu.services s.words s.owners s.jumpers s.writers s.readers

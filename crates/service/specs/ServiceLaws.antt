@@ -17,7 +17,7 @@ use Rattle.rules.proofs.Laws.TestedRows.{verdict_tested}
 use Rattle.rules.specs.Step.{Stepped, owned, joined, joined_services, join_at, isolated, jump_added, store_added, read_added, ran_service, commit, step}
 use Rattle.rules.proofs.Laws.FormLaws.{is_formed, is_numbered}
 use Rattle.monitor.specs.Outcomes.{called, isolating, Adding, adding}
-use Rattle.service.specs.Served.{isolated_by, added_by, grown, Serving, told, call_of, add_of, isolates, adds_jump, adds_store, adds_read, serving}
+use Rattle.service.specs.Served.{isolated_by, added_by, grown, Serving, call_of, add_of, isolates, adds_jump, adds_store, adds_read, serving}
 
 -- whether a call arrives: the flag is set, and the caller is in the service's set
 abbrev pub arrives_by : Processor → ℕ → Bool
@@ -96,14 +96,6 @@ leaves s o =
             readers = o.readers;
           };
     }
-
--- what is told of it leaves the same
-leaves_told : (s : State) (o : Serving) → leaves s (told o) ≡ leaves s o
-leaves_told s o = go (o.answer == answer.done) refl
-  where
-    go : (b : Bool) → (o.answer == answer.done) ≡ b → leaves s (told o) ≡ leaves s o
-    go true e = simp e
-    go false e = simp e
 
 -- isolate reads neither the flag nor pc
 pub same_isolate : (s : State) → isolate_verdict (call_of s) s.cpu.prev ≡ isolate_verdict s s.cpu.prev
@@ -245,13 +237,10 @@ module _ (s : State) (f : formed s ≡ true) (h : s.cpu.n ≤ s.cpu.pc) where
           (no_place s f h (other_place s.cpu.strict s.cpu.pc (eqb-false _ _ x) (eqb-false _ _ y) (eqb-false _ _ z)
           (λ q. ap (λ (t : Bool). t && s.cpu.strict) (sym (eq-eqb _ _ q)) ∙ w)))
 
-  told_steps : (o : Serving) → o ≡ told (serving s) → leaves s o ≡ step s
-  told_steps o e = ap (leaves s) e ∙ leaves_told s (serving s) ∙ serving_steps (serving s) refl
-
   -- as the code comes to it
-  module _ (o : Serving) (e : o ≡ told (serving s)) where
+  module _ (o : Serving) (e : o ≡ serving s) where
     pub serving_stops : o.answer ≢ answer.done → record { answer = o.answer; state = record { cpu = s.cpu; words = s.words; owners = o.owners; jumpers = o.jumpers; writers = o.writers; readers = o.readers } } ≡ step s
-    serving_stops n = subst (λ (t : Bool). record { answer = o.answer; state = record { cpu = cond t (back_with s.cpu o.number o.next o.services) s.cpu; words = s.words; owners = o.owners; jumpers = o.jumpers; writers = o.writers; readers = o.readers } } ≡ step s) (ne_eqb o.answer answer.done n) (told_steps o e)
+    serving_stops n = subst (λ (t : Bool). record { answer = o.answer; state = record { cpu = cond t (back_with s.cpu o.number o.next o.services) s.cpu; words = s.words; owners = o.owners; jumpers = o.jumpers; writers = o.writers; readers = o.readers } } ≡ step s) (ne_eqb o.answer answer.done n) (serving_steps o e)
 
     pub serving_runs : o.answer ≡ answer.done → record { answer = o.answer; state = record { cpu = back_with s.cpu o.number o.next o.services; words = s.words; owners = o.owners; jumpers = o.jumpers; writers = o.writers; readers = o.readers } } ≡ step s
-    serving_runs n = subst (λ (t : Bool). record { answer = o.answer; state = record { cpu = cond t (back_with s.cpu o.number o.next o.services) s.cpu; words = s.words; owners = o.owners; jumpers = o.jumpers; writers = o.writers; readers = o.readers } } ≡ step s) (eq-eqb o.answer answer.done n) (told_steps o e)
+    serving_runs n = subst (λ (t : Bool). record { answer = o.answer; state = record { cpu = cond t (back_with s.cpu o.number o.next o.services) s.cpu; words = s.words; owners = o.owners; jumpers = o.jumpers; writers = o.writers; readers = o.readers } } ≡ step s) (eq-eqb o.answer answer.done n) (serving_steps o e)

@@ -21,7 +21,7 @@ use Rattle.rules.specs.Rows.{Row, moved}
 use Rattle.rules.specs.Step.{Stepped, isolated, jump_added, store_added, read_added, ran_service, commit, step}
 use Rattle.rules.proofs.Theorems.Formed.{step_formed}
 use Rattle.monitor.specs.Outcomes.{adding, isolating, joins_at}
-use Rattle.service.specs.Served.{isolated_by, added_by, Serving, told, call_of, add_of, isolates, adds_jump, adds_store, adds_read, serving}
+use Rattle.service.specs.Served.{isolated_by, added_by, Serving, call_of, add_of, isolates, adds_jump, adds_store, adds_read, serving}
 use Rattle.service.specs.ServiceLaws.{arrives_by, not_inside, same_isolate, same_add, serving_steps}
 
 -- what compartments gain who came to an answer
@@ -121,14 +121,3 @@ serving_rows s f h o e d = subst (λ (x : Serving). Moves s x (step s).state) (s
     go false false true g x y z w = simp (x, y, z) (store_moves s f h v (eqb-false _ _ x) (eqb-true _ _ z) (simp (x, y, z) at d'))
     go false false false true x y z w = simp (x, y, z, w) (read_moves s f h v (eqb-false _ _ x) (eqb-true _ _ (both (s.cpu.pc == add_read_target) s.cpu.strict w).0))
     go false false false false x y z w = let q : ◌≡◌ {A = ℕ} 2 0 = simp (x, y, z, w) at d' in absurd (omega arith)
-
--- as the code comes to it
-pub told_rows : (s : State) (f : formed s ≡ true) (h : s.cpu.n ≤ s.cpu.pc) (o : Serving) → o ≡ told (serving s) → o.answer ≡ answer.done → Moves s o (step s).state
-told_rows s f h o e d = serving_rows s f h o (e ∙ whole (serving s) (ap (λ (x : Serving). x.answer) (sym e) ∙ d)) d
-  where
-    whole : (x : Serving) → (told x).answer ≡ answer.done → told x ≡ x
-    whole x z = go (x.answer == answer.done) refl
-      where
-        go : (b : Bool) → (x.answer == answer.done) ≡ b → told x ≡ x
-        go true c = simp c
-        go false c = let y : x.answer ≡ answer.done = simp c at z in absurd (eqb-false _ _ c y)

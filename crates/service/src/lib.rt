@@ -3,16 +3,18 @@
 
 ghost use Rattle.std.specs.Prelude.{◌≡◌};
 ghost use Rattle.monitor.specs.Outcomes.{called_by, isolating_of, adding_of};
-ghost use Rattle.service.specs.Served.{state_by, served_of, told, serving, isolated_by, added_by};
+ghost use Rattle.service.specs.Served.{state_by, served_of, serving, isolated_by, added_by};
 
 use answers::Refusal;
 use monitor::Isolated;
 use reach::Call;
 
-/// The service's number, the first unused compartment number, the sets I of the four services, and which compartment gained how many
-/// addresses, jump targets and store targets.
+/// Whether the call stopped, and why; the service's number, the first unused compartment number, the sets I of the four services, and which
+/// compartment gained how many addresses, jump targets and store targets.
 #[derive(Clone, Copy)]
 pub struct Served {
+    // kept: what may not change: `serve` promises the other numbers on a stop, too
+    pub answer: Result<(), Refusal>,
     pub number: u32,
     pub next: u32,
     pub services: [u64; 4],
@@ -68,12 +70,13 @@ pub fn serve(
     jumpers: &mut [u64],
     writers: &mut [u64],
     readers: &mut [u64],
-) -> Result<Served, Refusal>
-    ensures { served_of call.now result owners.new jumpers.new writers.new readers.new ≡ told (serving (state_by call.now pc jumped words.now owners.old jumpers.old writers.old readers.old)) }
+) -> Served
+    ensures { served_of result owners.new jumpers.new writers.new readers.new ≡ serving (state_by call.now pc jumped words.now owners.old jumpers.old writers.old readers.old) }
 {
     let services = call.services;
-    // what an add leaves, of which the caller gains
-    let left = Served {
+    // where nothing is gained
+    let still = Served {
+        answer: Ok(()),
         number: 0,
         next: call.next,
         services,
@@ -84,39 +87,60 @@ pub fn serve(
     };
     match pc {
         modes::ISOLATE => {
-            let made = isolate(call, jumped, words, owners, jumpers, writers, readers)?;
-            let services = made.services;
-            Ok(Served {
+            let asked = Served {
                 number: 1,
-                next: call.next.wrapping_add(1),
-                services,
                 to: call.next,
-                owned: made.owned,
-                jump: made.jump,
-                store: made.store,
-            })
+                ..still
+            };
+            match isolate(call, jumped, words, owners, jumpers, writers, readers) {
+                Ok(made) => {
+                    let services = made.services;
+                    Served {
+                        next: call.next.wrapping_add(1),
+                        services,
+                        owned: made.owned,
+                        jump: made.jump,
+                        store: made.store,
+                        ..asked
+                    }
+                }
+                Err(refusal) => Served {
+                    answer: Err(refusal),
+                    ..asked
+                },
+            }
         }
         modes::ADD_JUMP_TARGET => {
-            let jump = add_target(call, jumped, services[1], owners, jumpers)?;
-            Ok(Served {
+            let added = add_target(call, jumped, services[1], owners, jumpers);
+            Served {
+                answer: added.and(Ok(())),
                 number: 2,
-                jump,
-                ..left
-            })
+                jump: added.unwrap_or(0),
+                ..still
+            }
         }
         modes::ADD_STORE_TARGET => {
-            let store = add_target(call, jumped, services[2], owners, writers)?;
-            Ok(Served {
+            let added = add_target(call, jumped, services[2], owners, writers);
+            Served {
+                answer: added.and(Ok(())),
                 number: 3,
-                store,
-                ..left
-            })
+                store: added.unwrap_or(0),
+                ..still
+            }
         }
         modes::ADD_READ_TARGET if call.caller.strict => {
             // readers are not counted
-            add_target(call, jumped, services[3], owners, readers)?;
-            Ok(Served { number: 4, ..left })
+            let added = add_target(call, jumped, services[3], owners, readers);
+            Served {
+                answer: added.and(Ok(())),
+                number: 4,
+                ..still
+            }
         }
-        _ => Err(Refusal::NoPlace),
+        _ => Served {
+            answer: Err(Refusal::NoPlace),
+            to: 0,
+            ..still
+        },
     }
 }

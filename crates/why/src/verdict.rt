@@ -113,7 +113,7 @@ impl NextStep<'_> {
             next: self.cpu.next,
             services: self.cpu.services,
         };
-        monitor::isolate_verdict(&call, &self.lent)?;
+        monitor::isolate_verdict(&call, &call.services, &self.lent)?;
         Ok(Outcome::Done)
     }
 

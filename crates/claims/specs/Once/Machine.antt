@@ -133,17 +133,10 @@ add_target_once κs a r q s t h k = sym (is_added _ r) ∙ same_by added_in h k 
 
 -- service: serve, with the owners, jumpers, writers and readers
 
-served_in : Serving → Result Served Refusal × Tags
-served_in m =
-    (result_of m.answer (record { number = m.number; next = m.next; services = m.services; to = m.to; owned = m.owned; jump = m.jump; store = m.store }), (m.owners, m.jumpers, m.writers, m.readers))
-
-is_served : (k : Call) (o j w d : List ℕ) (r : Result Served Refusal) → served_in (served_of k r o j w d) ≡ (r, (o, j, w, d))
-unfolding served_in
-is_served k o j w d (Ok i) = refl
-is_served k o j w d (Err e) = ap (λ (r : Result Served Refusal). (r, (o, j, w, d))) (result_of-number e _)
-
-pub serve_once : Once serve.Post {Out = Result Served Refusal × Tags} (λ κs r s. (r, tags s.1.1.1.1))
-serve_once κs a r q s t h k = sym (is_served a.0.now _ _ _ _ r) ∙ same_by served_in h k ∙ is_served a.0.now _ _ _ _ q
+pub serve_once : Once serve.Post {Out = Served × Tags} (λ κs r s. (r, tags s.1.1.1.1))
+serve_once κs a r q s t h k =
+    let e = same h k in
+    λ i. (record { answer = one_answer r.answer q.answer (ap (λ (m : Serving). m.answer) e) i; number = (e i).number; next = (e i).next; services = (e i).services; to = (e i).to; owned = (e i).owned; jump = (e i).jump; store = (e i).store }, ((e i).owners, (e i).jumpers, (e i).writers, (e i).readers))
 
 -- machine: Processor::step, Processor::run, with the five memories
 

@@ -1,6 +1,5 @@
 -- `run_rows`, need by need: the invariant is the run at the place reached; inside, that the place is reached from wherever its begin was.
 use Rattle.machine.specs.RunLaws.{unasked_home, nothing, unformed, few_rows, starts, all_used, word_stops, word_turns, word_home, service_stops, service_turns, arrived, called, left}
-use Rattle.answers.specs.Results.{number-not-0}
 use Rattle.rows.specs.Views.{table}
 use Rattle.rows.specs.TableLaws.{length_table}
 use mathlib.Core.Path.{refl, sym, ◌∙◌}
@@ -49,8 +48,8 @@ returns-then-answer-ne-DONE c = simp c.ended.ensures (word_stops _ _ _ _ _ _ (c.
 pub loop-pc-preserved : goal.loop-pc-preserved
 loop-pc-preserved c = (λ s₀ rows₀ g. word_turns s₀ rows₀ _ _ _ _ (c.loop-pc.invariant.0 s₀ rows₀ g) c.if-budget-count.false c.loop-pc-test.true _ refl refl c.loop-pc.invariant.1 _ c.decide-m.ensures c.if-answer-ne-DONE.false _ _ c.put_reg.ensures c.put_word.ensures, word_home _ _ _ _ _ _ (c.loop-pc.invariant.0 _ _ c.loop-count.invariant.0) c.if-budget-count.false c.loop-pc-test.true _ refl refl c.loop-pc.invariant.1 _ c.decide-m.ensures c.if-answer-ne-DONE.false, omega arith)
 
-pub returns-in-Err : goal.returns-in-Err
-returns-in-Err c = simp (c.ended-in-Err.ensures, c.from.ensures) (service_stops _ _ _ _ _ _ (c.loop-pc.invariant.0 _ _ c.loop-count.invariant.0) c.if-budget-count-2.false (elim c.loop-pc-test.branch [ else-loop-pc-test w ↦ w.loop-pc-test.false | then-loop-pc-test+then-budget-count w ↦ absurd (omega (arith, w.if-budget-count.true, c.if-budget-count-2.false)) ]) _ (called _ _ _ _ _ _ _ _ _ _ _ _ _ _ c.prev_of-caller.ensures c.jumped_of-jumped.ensures _ c.in-Err.ensures) (λ z. number-not-0 _ z))
+pub returns-then-answer-ne-DONE-2 : goal.returns-then-answer-ne-DONE-2
+returns-then-answer-ne-DONE-2 c = simp (c.ended-then-answer-ne-DONE-2.ensures, c.answer_of-answer.ensures) (service_stops _ _ _ _ _ _ (c.loop-pc.invariant.0 _ _ c.loop-count.invariant.0) c.if-budget-count-2.false (elim c.loop-pc-test.branch [ else-loop-pc-test w ↦ w.loop-pc-test.false | then-loop-pc-test+then-budget-count w ↦ absurd (omega (arith, w.if-budget-count.true, c.if-budget-count-2.false)) ]) _ (called _ _ _ _ _ _ _ _ _ _ _ _ _ _ c.prev_of-caller.ensures c.jumped_of-jumped.ensures _ c.serve-s.ensures) (λ z. c.if-answer-ne-DONE-2.true (c.answer_of-answer.ensures ∙ z)))
 
 pub overflow_add-count-in-loop-count : goal.overflow_add-count-in-loop-count
 overflow_add-count-in-loop-count c = omega (arith, c.if-budget-count-2.false, c.loop-count.invariant.1)
@@ -59,7 +58,7 @@ pub loop-count-smaller : goal.loop-count-smaller
 loop-count-smaller c = omega (arith, c.if-budget-count-2.false, c.loop-pc.invariant.2)
 
 pub loop-count-preserved : goal.loop-count-preserved
-loop-count-preserved c = (arrived _ _ _ _ _ _ _ _ _ _ _ _ _ _ (omega arith) c.unasked-arrival-in-loop-count.ensures _ _ _ _ _ (service_turns _ _ _ _ _ _ (c.loop-pc.invariant.0 _ _ c.loop-count.invariant.0) c.if-budget-count-2.false (elim c.loop-pc-test.branch [ else-loop-pc-test w ↦ w.loop-pc-test.false | then-loop-pc-test+then-budget-count w ↦ absurd (omega (arith, w.if-budget-count.true, c.if-budget-count-2.false)) ]) _ (called _ _ _ _ _ _ _ _ _ _ _ _ _ _ c.prev_of-caller.ensures c.jumped_of-jumped.ensures _ c.in-Ok.ensures) refl _ c.prev_of-caller.ensures _ c.settle.ensures), c.loop-count.invariant.1, unasked_home _ _ _ _ _ c.unasked-arrival-in-loop-count.ensures, c.settle.auto.rows ∙ c.loop-count.invariant.3)
+loop-count-preserved c = (arrived _ _ _ _ _ _ _ _ _ _ _ _ _ _ (omega arith) c.unasked-arrival-in-loop-count.ensures _ _ _ _ _ (service_turns _ _ _ _ _ _ (c.loop-pc.invariant.0 _ _ c.loop-count.invariant.0) c.if-budget-count-2.false (elim c.loop-pc-test.branch [ else-loop-pc-test w ↦ w.loop-pc-test.false | then-loop-pc-test+then-budget-count w ↦ absurd (omega (arith, w.if-budget-count.true, c.if-budget-count-2.false)) ]) _ (called _ _ _ _ _ _ _ _ _ _ _ _ _ _ c.prev_of-caller.ensures c.jumped_of-jumped.ensures _ c.serve-s.ensures) (sym c.answer_of-answer.ensures ∙ c.if-answer-ne-DONE-2.false) _ c.prev_of-caller.ensures _ c.settle.ensures), c.loop-count.invariant.1, unasked_home _ _ _ _ _ c.unasked-arrival-in-loop-count.ensures, c.settle.auto.rows ∙ c.loop-count.invariant.3)
 
 pub shape_of-words : goal.shape_of-words
 shape_of-words c =
