@@ -7,10 +7,11 @@ ghost use Rattle.label_table.specs.Table.{most, hash, count, looked, found, inse
 
 use tokens::{folded, same_name};
 
-// How many labels a table can hold.
-const MOST: usize = 2048;
+/// How many labels a table can hold.
+pub const MOST: usize = 2048;
 
-const CHAINS: usize = 1024;
+/// How many chains a table has.
+pub const CHAINS: usize = 1024;
 
 /// Where a label is defined: how many lines and how many words stand before its line.
 #[derive(Clone, Copy, Debug, PartialEq, Eq)]
@@ -19,12 +20,15 @@ pub struct Definition {
     pub words: u64,
 }
 
-// The place of a label's name, where it is defined, and the label of the same chain that was put in before it.
+/// A label that was put in.
 #[derive(Clone, Copy)]
-struct Entry {
-    place: usize,
-    definition: Definition,
-    older: Option<usize>,
+pub struct Entry {
+    /// The place of its name in the text.
+    pub place: usize,
+    /// Where it is defined.
+    pub definition: Definition,
+    /// The number of the entry of the same chain that was put in before it.
+    pub older: Option<usize>,
 }
 
 const BLANK: Entry = Entry {
@@ -33,13 +37,16 @@ const BLANK: Entry = Entry {
     older: None,
 };
 
-/// The labels of a text that were put in, and the newest of each chain.
+/// The labels of a text that were put in, and the newest of each chain. A caller may fill the fields with anything.
 // kept: a rule of the project (fixed memory): no map, whose memory is not fixed
-#[derive(Drop)]
+#[derive(Clone, Copy)]
 pub struct Table {
-    count: usize,
-    newest: [Option<usize>; CHAINS],
-    entries: [Entry; MOST],
+    /// How many labels were put in.
+    pub count: usize,
+    /// The number of the newest entry of each chain.
+    pub newest: [Option<usize>; CHAINS],
+    /// The labels, in the order in which they were put in.
+    pub entries: [Entry; MOST],
 }
 
 // The chain of the name at a place.
