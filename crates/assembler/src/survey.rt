@@ -48,7 +48,7 @@ pub(crate) fn survey(text: &[u8], table: &mut Table) -> bool
             return false;
         }
         here.line += 1;
-        here.words += labels::held(shape);
+        here.words += labels::words_in_line(shape);
         at = tokens::line_end(text, at) + 1;
     }
     true

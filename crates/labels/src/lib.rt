@@ -44,9 +44,17 @@ fn defines(text: &[u8], at: usize, shape: Result<Shape, Refusal>, place: usize) 
         && tokens::same_name(text, place, tokens::token(text, at).place)
 }
 
+// How many words a line holds, by the number of its shape or of its refusal.
+#[tactic(auto, unfolding(crate::specs::Locating::held_by))]
+pub fn held(shape: u32) -> u64
+    ensures { result ≡ held_by shape }
+{
+    u64::from(shape == Shape::Word as u32)
+}
+
 // How many words a line of this shape holds.
 #[tactic(auto, unfolding(crate::specs::Locating::held_by))]
-pub fn held(shape: Result<Shape, Refusal>) -> u64
+pub fn words_in_line(shape: Result<Shape, Refusal>) -> u64
     ensures { result ≡ held_by (seen_shape shape) }
 {
     u64::from(matches!(shape, Ok(Shape::Word)))
@@ -65,7 +73,7 @@ pub fn scan(text: &[u8], place: usize) -> Option<Definition>
             return Some(definition);
         }
         definition.line += 1;
-        definition.words += held(shape);
+        definition.words += words_in_line(shape);
         at = tokens::line_end(text, at) + 1;
     }
     None

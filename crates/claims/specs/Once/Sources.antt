@@ -15,6 +15,7 @@ use Rattle.label_table.proofs.Table.is_full.Reads as is-full
 use Rattle.label_table.proofs.Table.find.Reads as find
 use Rattle.label_table.proofs.Table.insert.Reads as insert
 use Rattle.labels.proofs.held.Reads as held
+use Rattle.labels.proofs.words_in_line.Reads as words-in-line
 use Rattle.labels.proofs.scan.Reads as scan
 use Rattle.labels.proofs.Labels.locate.Reads as locate
 use Rattle.values.proofs.number.Reads as number
@@ -63,10 +64,13 @@ find_once κs a r q s t = same
 pub insert_once : Once insert.Post (λ κs r s. s.0.now)
 insert_once κs a r q s t = same
 
--- labels: held, scan, locate
+-- labels: held, words_in_line, scan, locate
 
 pub held_once : Once held.Post (λ κs r s. r)
 held_once κs a r q s t = same
+
+pub words_in_line_once : Once words-in-line.Post (λ κs r s. r)
+words_in_line_once κs a r q s t = same
 
 pub scan_once : Once scan.Post (λ κs r s. r)
 scan_once κs a r q s t = same

@@ -17,7 +17,7 @@ pub returns-then-defines : goal.returns-then-defines
 returns-then-defines c = scan_here _ _ _ _ _ c.loop-at.invariant.3 c.loop-at-test.true _ c.defines.ensures c.if-defines.true
 
 pub overflow_add-definition-in-loop-at : goal.overflow_add-definition-in-loop-at
-overflow_add-definition-in-loop-at c = let k = held_small _ _ c.held.ensures in omega (arith, k)
+overflow_add-definition-in-loop-at c = let k = held_small _ _ c.words_in_line.ensures in omega (arith, k)
 
 pub overflow_add-at : goal.overflow_add-at
 overflow_add-at c = let w = line_end_within _ _ c.loop-at-test.true _ c.line_end-at.ensures in omega (arith, w.1)
@@ -28,11 +28,11 @@ loop-at-smaller c = let w = line_end_within _ _ c.loop-at-test.true _ c.line_end
 pub loop-at-preserved : goal.loop-at-preserved
 loop-at-preserved c =
     let w = line_end_within _ _ c.loop-at-test.true _ c.line_end-at.ensures in
-    let k = held_small _ _ c.held.ensures in (
+    let k = held_small _ _ c.words_in_line.ensures in (
       omega (arith, w.1),
       omega (arith, w.0),
       omega (arith, k),
-      scan_next _ _ _ _ _ c.loop-at.invariant.3 c.loop-at-test.true _ c.defines.ensures c.if-defines.false _ _ _ c.shape-shape.ensures c.held.ensures c.line_end-at.ensures,
+      scan_next _ _ _ _ _ c.loop-at.invariant.3 c.loop-at-test.true _ c.defines.ensures c.if-defines.false _ _ _ c.shape-shape.ensures c.words_in_line.ensures c.line_end-at.ensures,
     )
 
 pub returns : goal.returns

@@ -14,7 +14,7 @@ pub returns-then-not-note : goal.returns-then-not-note
 returns-then-not-note c = survey_full _ _ _ _ _ c.loop-at.invariant.3 c.loop-at-test.true _ c.shape-shape.ensures _ _ c.note.ensures (ap not c.if-not-note.true)
 
 pub overflow_add-here-in-loop-at : goal.overflow_add-here-in-loop-at
-overflow_add-here-in-loop-at c = let k = held_small _ _ c.held.ensures in omega (arith, k)
+overflow_add-here-in-loop-at c = let k = held_small _ _ c.words_in_line.ensures in omega (arith, k)
 
 pub overflow_add-at : goal.overflow_add-at
 overflow_add-at c = let w = line_end_within _ _ c.loop-at-test.true _ c.line_end-at.ensures in omega (arith, w.1)
@@ -25,11 +25,11 @@ loop-at-smaller c = let w = line_end_within _ _ c.loop-at-test.true _ c.line_end
 pub loop-at-preserved : goal.loop-at-preserved
 loop-at-preserved c =
     let w = line_end_within _ _ c.loop-at-test.true _ c.line_end-at.ensures in
-    let k = held_small _ _ c.held.ensures in (
+    let k = held_small _ _ c.words_in_line.ensures in (
       omega (arith, w.1),
       omega (arith, w.0),
       omega (arith, k),
-      survey_goes _ _ _ _ _ c.loop-at.invariant.3 c.loop-at-test.true _ c.shape-shape.ensures _ _ c.note.ensures (ap not c.if-not-note.false) _ _ c.held.ensures c.line_end-at.ensures,
+      survey_goes _ _ _ _ _ c.loop-at.invariant.3 c.loop-at-test.true _ c.shape-shape.ensures _ _ c.note.ensures (ap not c.if-not-note.false) _ _ c.words_in_line.ensures c.line_end-at.ensures,
     )
 
 pub returns : goal.returns
