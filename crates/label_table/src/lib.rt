@@ -28,7 +28,7 @@ pub struct Entry {
     /// Where it is defined.
     pub definition: Definition,
     /// The number of the entry of the same chain that was put in before it.
-    pub older: Option<usize>,
+    pub older: Option<u16>,
 }
 
 const BLANK: Entry = Entry {
@@ -44,7 +44,7 @@ pub struct Table {
     /// How many labels were put in.
     pub count: usize,
     /// The number of the newest entry of each chain.
-    pub newest: [Option<usize>; CHAINS],
+    pub newest: [Option<u16>; CHAINS],
     /// The labels, in the order in which they were put in.
     pub entries: [Entry; MOST],
 }
@@ -89,7 +89,7 @@ impl Table {
     {
         let mut next = self.newest[hash(text, place)];
         for _turn in 0..MOST {
-            let entry = self.entries.get(next?)?;
+            let entry = self.entries.get(next? as usize)?;
             if same_name(text, place, entry.place) {
                 return Some(entry.definition);
             }
@@ -113,7 +113,7 @@ impl Table {
             definition,
             older,
         };
-        self.newest[h] = Some(n);
+        self.newest[h] = Some(n as u16);
         self.count = n + 1;
     }
 }
