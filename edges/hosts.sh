@@ -70,15 +70,18 @@ needs_of_archive() {
     [ "$needs" = 'memcpy memset ' ] || wrong "the archive needs: $needs"
 }
 
-# 0, 1 and each refusal `SomeName = N` of crate answers are KL_DONE, KL_HALT and KL_SOME_NAME, and the header has no more of them.
+# 0, 1 and each refusal `SomeName = N` of crate answers are KL_DONE, KL_HALT and KL_SOME_NAME, and the header has no more of them; each
+# constant `pub const NAME: u32 = N` there is KL_NAME, too.
 answers_agree() {
-    local ours header
+    local ours header constants
     ours=$(sed -n 's/^pub const \(DONE\|HALT\): u32 = \([0-9]*\);$/KL_\1 \2/p' "$root/crates/answers/src/lib.rt")
     ours+=$'\n'$(sed -n 's/^    \([A-Z][A-Za-z]*\) = \([0-9]*\),$/\1 \2/p' "$root/crates/answers/src/lib.rt" |
         sed 's/\([a-z]\)\([A-Z]\)/\1_\2/g; s/^/KL_/' | tr '[:lower:]' '[:upper:]')
     header=$(sed -n '/^\/\* The answers/,/^};/s/^    \(KL_[A-Z_]*\) = \([0-9]*\).*/\1 \2/p' "$root/include/kldemuvash.h")
     [ -n "$ours" ] || wrong "there are none in the crate"
     [ "$ours" = "$header" ] || wrong "$(diff <(echo "$ours") <(echo "$header") || true)"
+    constants=$(sed -n 's/^pub const \([A-Z_]*\): u32 = \([0-9]*\);$/KL_\1 \2/p' "$root/crates/answers/src/lib.rt")
+    ! grep -vxF "$header" <<<"$constants" || wrong "a constant of the crate is none of the header's"
 }
 
 opcodes_agree() {
@@ -87,6 +90,8 @@ opcodes_agree() {
     header=$(sed -n 's/^    KL_OP_\([A-Z]*\) = \([0-9]*\).*/\1 \2/p' "$root/include/kldemuvash.h" | tr '[:upper:]' '[:lower:]')
     [ -n "$ours" ] || wrong "there are none in the crate"
     [ "$ours" = "$header" ] || wrong "$(diff <(echo "$ours") <(echo "$header") || true)"
+    constants=$(sed -n 's/^pub const \([A-Z_]*\): u32 = \([0-9]*\);$/KL_\1 \2/p' "$root/crates/answers/src/lib.rt")
+    ! grep -vxF "$header" <<<"$constants" || wrong "a constant of the crate is none of the header's"
 }
 
 tools_found() { (find_tools) 2>"$room/err" || skip "$(head -n 1 "$room/err")"; }
