@@ -92,7 +92,9 @@ pub fn serve(
                 to: call.next,
                 ..still
             };
-            match isolate(call, jumped, words, owners, jumpers, writers, readers) {
+            // its own copy, so that the call of an add, which is inlined, need not stand in memory
+            let call = *call;
+            match isolate(&call, jumped, words, owners, jumpers, writers, readers) {
                 Ok(made) => {
                     let services = made.services;
                     Served {
