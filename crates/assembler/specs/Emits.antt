@@ -23,7 +23,7 @@ use Rattle.sources.proofs.Laws.FirstLaws.{first_defined}
 use Rattle.sources.proofs.Laws.Registers.{read_registers}
 use Rattle.sources.proofs.Laws.Walks.{Walked, walk_ends, walk_faults, walk_passes, walk_holds}
 use Rattle.tokens.specs.Streams.{token_at}
-use Rattle.values.specs.Fields.{fitted_of}
+use Rattle.values.specs.Refusals.{fitted_of}
 use Rattle.labels.specs.LineLaws.{line_source, line_says, label_named}
 use Rattle.assembler.specs.Holding.{word_at}
 use Rattle.expressions.specs.Completes.{numbers}

@@ -5,7 +5,7 @@ use Rattle.common.specs.Words.{encode}
 use Rattle.common.proofs.Laws.WordLaws.{Allowed, allowed_is}
 use Rattle.sources.specs.Values.{Valued, is, unknown, outside, after}
 use Rattle.sources.specs.Words.{fields, word_of}
-use Rattle.values.specs.Fields.{fitted_of}
+use Rattle.values.specs.Refusals.{fitted_of}
 use Rattle.assembler.specs.Holding.{coded, completed}
 
 coded_means : (op a b low : ℕ) → Allowed op a b low → coded op a b low ≡ fitted_of (is (word_of (fields op a b low)))

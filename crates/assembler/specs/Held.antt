@@ -18,8 +18,7 @@ use Rattle.sources.proofs.Theorems.Decodes.{fields_allowed}
 use Rattle.grammar.specs.Reading.Kinds.{kind_of}
 use Rattle.tokens.specs.Streams.{stream, token_at}
 use Rattle.tokens.specs.Heads.{head}
-use Rattle.values.specs.Values.{fit}
-use Rattle.values.specs.Fields.{fitted_of, fit_means}
+use Rattle.values.specs.Refusals.{fit, fitted_of, fit_means}
 use Rattle.expressions.specs.declared.Read.{Read}
 use Rattle.expressions.specs.Readers.{Reading, expression_at}
 use Rattle.expressions.specs.Completes.{NoStar, NoSign, numbers, ReadsTo, reads_expression}

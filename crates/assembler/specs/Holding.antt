@@ -7,7 +7,8 @@ use Rattle.answers.specs.declared.Refusal.{Refusal}
 use Rattle.answers.specs.Results.{result_of}
 use Rattle.sources.specs.Labels.{Site}
 use Rattle.tokens.specs.Streams.{token_at}
-use Rattle.values.specs.Values.{then, fit}
+use Rattle.values.specs.Values.{then}
+use Rattle.values.specs.Refusals.{fit}
 use Rattle.expressions.specs.declared.Read.{Read}
 use Rattle.expressions.specs.Readers.{Reading, expression_at}
 use Rattle.assembler.specs.declared.word.Operand.{Operand}

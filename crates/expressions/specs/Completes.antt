@@ -15,9 +15,8 @@ use Rattle.sources.specs.Labels.{Site}
 use Rattle.grammar.specs.Reading.Kinds.{kind_of, clip}
 use Rattle.tokens.specs.Streams.{stream, token_at}
 use Rattle.tokens.specs.Heads.{head_kind, head_kind_lem, Head, head}
-use Rattle.values.specs.Values as value
-use Rattle.values.specs.Values.{Checked}
-use Rattle.values.specs.Meaning.{meant, number_means, unknown_means, plus_means, minus_means, times_means, negated_means}
+use Rattle.values.specs.Refusals as value
+use Rattle.values.specs.Refusals.{Checked, meant, number_means, unknown_means, plus_means, minus_means, times_means, negated_means}
 use Rattle.expressions.specs.Readers as reader
 use Rattle.expressions.specs.Readers.{Reading}
 

@@ -9,7 +9,7 @@ use Rattle.std.proofs.Math.Dec.{eqb}
 use Rattle.sources.specs.Labels.{Site}
 use Rattle.tokens.specs.Streams.{token_at}
 use Rattle.tokens.specs.StreamLaws.{next_on}
-use Rattle.values.specs.Values.{Checked, times}
+use Rattle.values.specs.Refusals.{Checked, times}
 use Rattle.expressions.specs.declared.Read.{Read}
 use Rattle.expressions.specs.Readers.{Reading, next_of, joined, opposed, is_star, is_sign, by_sign, more, closed, factor_by, product_by, first_by, sum_by, inside, factor_at, product_at, expression_at}
 

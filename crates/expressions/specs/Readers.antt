@@ -9,7 +9,7 @@ use Rattle.sources.specs.Labels.{Site}
 use Rattle.tokens.specs.Streams.{token_at}
 use Rattle.answers.specs.declared.Refusal.{Refusal}
 use Rattle.answers.specs.declared.Refusal.TheVariants.{NoLine, TooDeep}
-use Rattle.values.specs.Values.{Checked, number, unknown, plus, minus, times, negated}
+use Rattle.values.specs.Refusals.{Checked, number, unknown, plus, minus, times, negated}
 use Rattle.expressions.specs.declared.Read.{Read}
 use Rattle.expressions.specs.declared.Stop.{Stop}
 

@@ -10,7 +10,7 @@ use Rattle.answers.specs.declared.Refusal.TheVariants.{NoLine, TooDeep}
 use Rattle.grammar.specs.Laws.Runs.{name_at}
 use Rattle.sources.specs.Labels.{Site}
 use Rattle.tokens.specs.Streams.{Handed, token_at}
-use Rattle.values.specs.Values.{Checked, number, negated}
+use Rattle.values.specs.Refusals.{Checked, number, negated}
 use Rattle.expressions.specs.declared.Read.{Read}
 use Rattle.expressions.specs.declared.Stop.{Stop}
 use Rattle.expressions.specs.Readers.{Reading, good, stop, joined, opposed, named, closed, factor_by, first_by, inside, expression_at}

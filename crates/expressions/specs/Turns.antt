@@ -11,7 +11,7 @@ use Rattle.common.proofs.Laws.Tests.{clash}
 use Rattle.sources.specs.Labels.{Site}
 use Rattle.tokens.specs.Streams.{Handed, token_at}
 use Rattle.tokens.specs.StreamLaws.{There, there}
-use Rattle.values.specs.Values.{Checked, times}
+use Rattle.values.specs.Refusals.{Checked, times}
 use Rattle.expressions.specs.declared.Read.{Read}
 use Rattle.expressions.specs.declared.Stop.{Stop}
 use Rattle.expressions.specs.Readers.{Reading, next_of, joined, is_star, is_sign, by_sign, more, product_by, sum_by, factor_at, product_at, first_at, expression_at}

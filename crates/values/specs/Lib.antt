@@ -3,3 +3,5 @@ pub mod Values
 pub mod Integers
 pub mod Meaning
 pub mod Fields
+-- ---- the same with refusals for faults, as the crates above have it
+pub mod Refusals

@@ -1,5 +1,9 @@
 -- "Two outcomes allowed by one promise are proved equal", of sources.
 use Rattle.std.specs.Prelude.{List, ℕ, Result}
+use Rattle.std.specs.declared.clone.Clone as clone
+use denote.RattleType.{RattleType}
+use denote.Param.Laws.{Laws, IsCopy}
+use mir.Syntax.{Dict}
 use Rattle.answers.specs.declared.Fault.{Fault}
 use Rattle.answers.specs.declared.Refusal.{Refusal}
 use Rattle.assembler.specs.Assembling.{one_assembled}
@@ -18,6 +22,11 @@ use Rattle.labels.proofs.held.Reads as held
 use Rattle.labels.proofs.words_in_line.Reads as words-in-line
 use Rattle.labels.proofs.scan.Reads as scan
 use Rattle.labels.proofs.Labels.locate.Reads as locate
+use Rattle.values.specs.declared.NoValue as no-value
+use Rattle.values.proofs.RefusalNoValue.number.Reads as refusal-number
+use Rattle.values.proofs.RefusalNoValue.of.Reads as refusal-of
+use Rattle.values.proofs.U32NoValue.number.Reads as u32-number
+use Rattle.values.proofs.U32NoValue.of.Reads as u32-of
 use Rattle.values.proofs.number.Reads as number
 use Rattle.values.proofs.unknown.Reads as unknown
 use Rattle.values.proofs.plus.Reads as plus
@@ -78,28 +87,43 @@ scan_once κs a r q s t = same
 pub locate_once : Once locate.Post (λ κs r s. r)
 locate_once κs a r q s t = same
 
--- values: number, unknown, plus, minus, times, negated, fit
+-- values: a refusal as a fault, and a number
 
-pub number_once : Once number.Post (λ κs r s. r)
-number_once κs a r q s t = same
+pub refusal_number_once : Once refusal-number.Post (λ κs r s. r)
+refusal_number_once κs a r q s t = same
 
-pub unknown_once : Once unknown.Post (λ κs r s. r)
-unknown_once κs a r q s t = same
+pub refusal_of_once : Once refusal-of.Post (λ κs r s. r)
+refusal_of_once κs a r q s t = same
 
-pub plus_once : Once plus.Post (λ κs r s. r)
-plus_once κs a r q s t = same
+pub u32_number_once : Once u32-number.Post (λ κs r s. r)
+u32_number_once κs a r q s t = same
 
-pub minus_once : Once minus.Post (λ κs r s. r)
-minus_once κs a r q s t = same
+pub u32_of_once : Once u32-of.Post (λ κs r s. r)
+u32_of_once κs a r q s t = same
 
-pub times_once : Once times.Post (λ κs r s. r)
-times_once κs a r q s t = same
+-- .. and, whatever a fault is: number, unknown, plus, minus, times, negated, fit
 
-pub negated_once : Once negated.Post (λ κs r s. r)
-negated_once κs a r q s t = same
+module _ (F : RattleType) (laws : Laws F) (copied : IsCopy F) (fault : no-value.Ghosts F.Denot) (faults : Dict) (clones : clone.Ghosts F.Denot) (cloned : Dict) where
+  pub number_once : Once (number.Post F laws copied fault faults clones cloned) (λ κs r s. r)
+  number_once κs a r q s t = same
 
-pub fit_once : Once fit.Post (λ κs r s. r)
-fit_once κs a r q s t = same
+  pub unknown_once : Once (unknown.Post F laws copied fault faults clones cloned) (λ κs r s. r)
+  unknown_once κs a r q s t = same
+
+  pub plus_once : Once (plus.Post F laws copied fault faults clones cloned) (λ κs r s. r)
+  plus_once κs a r q s t = same
+
+  pub minus_once : Once (minus.Post F laws copied fault faults clones cloned) (λ κs r s. r)
+  minus_once κs a r q s t = same
+
+  pub times_once : Once (times.Post F laws copied fault faults clones cloned) (λ κs r s. r)
+  times_once κs a r q s t = same
+
+  pub negated_once : Once (negated.Post F laws copied fault faults clones cloned) (λ κs r s. r)
+  negated_once κs a r q s t = same
+
+  pub fit_once : Once (fit.Post F laws copied fault faults clones cloned) (λ κs r s. r)
+  fit_once κs a r q s t = same
 
 -- expressions: expression
 
