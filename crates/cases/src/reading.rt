@@ -1,8 +1,10 @@
 // The bytes, names and numbers of a text of cases, from a place on. What is asked past its end is 0.
-ghost use Rattle.std.specs.Prelude.{◌≤◌, ◌<◌, length};
+ghost use Rattle.std.specs.Prelude.{◌≤◌, ◌<◌, length, IfSome};
 
 // The value of a hexadecimal digit.
-pub(crate) fn digit(b: u8) -> Option<u8> {
+pub(crate) fn digit(b: u8) -> Option<u8>
+    ensures { IfSome result (λ d. d < 16) }
+{
     match b {
         b'0'..=b'9' => Some(b - b'0'),
         b'A'..=b'F' => Some(b - b'A' + 10),
