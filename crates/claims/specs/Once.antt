@@ -10,3 +10,4 @@ pub mod Imports
 pub mod Printed
 pub mod Sheets
 pub mod Rooms
+pub mod Programs
