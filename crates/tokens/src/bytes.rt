@@ -25,8 +25,12 @@ pub(crate) fn blank(b: u8) -> bool
 pub fn folded(b: u8) -> Option<u8>
     ensures { result ≡ unless 0 (folded_of b) }
 {
+    // asked first, since most letters of a source are small
+    if matches!(b, b'a'..=b'z') {
+        return Some(b);
+    }
     match b {
-        b'0'..=b'9' | b'a'..=b'z' | b'_' => Some(b),
+        b'0'..=b'9' | b'_' => Some(b),
         b'A'..=b'Z' => Some(b + 32),
         _ => None,
     }
