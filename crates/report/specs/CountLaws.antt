@@ -1,9 +1,9 @@
 -- The counts in the forms in which the code comes to them: the places of one list, and the services.
-use Rattle.std.specs.Prelude.{◌≡◌, Bool, ◌&&◌, not, List, ℕ, zero, suc, ◌+◌, ◌-◌, ◌≤◌, ◌<◌, min, max, ltb, eqb, get_or, length, take, count_by, nat_lt, ◌==◌}
+use Rattle.std.specs.Prelude.{◌≡◌, Bool, ◌&&◌, not, List, ℕ, suc, ◌+◌, ◌-◌, ◌≤◌, ◌<◌, min, max, ltb, eqb, get_or, length, take, nat_lt, ◌==◌}
 use Rattle.std.specs.Ordering.{nat_cmp, ord_min, ord_max}
 use Rattle.std.proofs.Math.Path.{refl, sym, ap, ap₂}
 use Rattle.std.proofs.Common.{◌∙◌, arith, zero-add, add-zero, add-one}
-use Rattle.std.proofs.lemmas.List.Sums.{count_by_more_yes, count_by_more_no}
+use Rattle.std.proofs.lemmas.List.{length-take, get_or-take}
 use Rattle.std.proofs.Math.Bool.{true, false, and-false}
 use borrow.Author.Tests.{ltb-true, lt-ltb, ltb-false, le-leb, lt-leb, not-true, not-false}
 use Rattle.common.specs.Instructions.{bit}
@@ -37,27 +37,29 @@ module _ (a b : ℕ) where
 -- ---- a count, address by address
 
 module _ (test : ℕ → Bool) where
+  pub count_zero : 0 ≡ count_from test 0 0
+  unfolding count_from
+  count_zero = refl
+
   count_more : (k : ℕ) → count_from test 0 (k + 1) ≡ count_from test 0 k + bit (test k)
   unfolding count_from
   count_more k = ap (count_from test 0) (add-one k) ∙ ap (λ (x : ℕ). count_from test 0 k + bit (test x)) (zero-add k)
 
--- the places of the first k items of a list, by the items that pass
-count_by_take : (p : ℕ → Bool) (xs : List ℕ) (k : ℕ) → k ≤ length xs → count_by p (take k xs) ≡ count_from (λ x. p (get_or xs x 0)) 0 k
-unfolding count_from
-count_by_take p xs zero h = refl
-count_by_take p xs (suc k) h = go (p (get_or xs k 0)) refl (count_by_take p xs k (omega arith))
-  where
-    go : (t : Bool) → p (get_or xs k 0) ≡ t → count_by p (take k xs) ≡ count_from (λ x. p (get_or xs x 0)) 0 k
-        → count_by p (take (suc k) xs) ≡ count_from (λ x. p (get_or xs x 0)) 0 k + bit (p (get_or xs (0 + k) 0))
-    go true e ih =
-        let z = count_by_more_yes p xs k 0 (omega arith) e in
-        simp (zero-add, e) (ap (λ (j : ℕ). count_by p (take j xs)) (sym (add-one k)) ∙ z ∙ ap (λ (c : ℕ). c + 1) ih)
-    go false e ih =
-        let z = count_by_more_no p xs k 0 (omega arith) e in
-        simp (zero-add, e, add-zero) (ap (λ (j : ℕ). count_by p (take j xs)) (sym (add-one k)) ∙ z ∙ ih)
+-- a loop over the first places of a list that counts the items that pass, at place k
+module _ (passes : ℕ → Bool) (xs : List ℕ) (places k count one : ℕ) where
+  pub counts_on : count ≡ count_from (λ x. passes (get_or xs x 0)) 0 k → k < length (take places xs) → one ≡ bit (passes (get_or (take places xs) k 0))
+      → count + one ≡ count_from (λ x. passes (get_or xs x 0)) 0 (k + 1)
+  counts_on e h o =
+      let l = length-take places xs in
+      ap₂ (λ (a b : ℕ). a + b) e (o ∙ ap (λ (x : ℕ). bit (passes x)) (get_or-take places xs k 0 (omega arith))) ∙ sym (count_more (λ x. passes (get_or xs x 0)) k)
 
-pub counted : (p : ℕ → Bool) (xs : List ℕ) (r k n : ℕ) → r ≡ count_by p (take k xs) → k ≡ min n (length xs) → r ≡ count_from (λ x. p (get_or xs x 0)) 0 (min n (length xs))
-counted p xs r k n e h = e ∙ count_by_take p xs k (omega arith) ∙ ap (count_from (λ x. p (get_or xs x 0)) 0) h
+  pub counts_below : (n : ℕ) → count ≡ count_from (λ x. passes (get_or xs x 0)) 0 k → k < length (take places xs) → one ≡ bit (passes (get_or (take places xs) k 0))
+      → places ≡ min n (length xs) → count + one ≤ n
+  counts_below n e h o w =
+      let l = length-take places xs in
+      let c = counts_on e h o in
+      let m = count_most (λ x. passes (get_or xs x 0)) (k + 1) in
+      omega arith
 
 -- ---- the places of one list
 

@@ -18,10 +18,11 @@ fn places_owned(owners: &[u32], n: u32, number: u32) -> u32
     ensures { result ≡ places_owned owners.now n number }
 {
     let places = min(n as usize, owners.len());
-    owners[..places]
-        .iter()
-        .filter(|owner| **owner == number)
-        .count() as u32
+    let mut count = 0;
+    for owner in &owners[..places] {
+        count += u32::from(*owner == number);
+    }
+    count
 }
 
 // How many of the sets at places below N have the number.
@@ -29,10 +30,11 @@ fn places_with(sets: &[u64], n: u32, number: u32) -> u32
     ensures { result ≡ places_with sets.now n number }
 {
     let places = min(n as usize, sets.len());
-    sets[..places]
-        .iter()
-        .filter(|set| Set(**set).contains(number))
-        .count() as u32
+    let mut count = 0;
+    for set in &sets[..places] {
+        count += u32::from(Set(*set).contains(number));
+    }
+    count
 }
 
 // 1 for a service at x that has the number and that N does not reach, else 0.
