@@ -139,7 +139,7 @@ impl NextStep<'_> {
     }
 
     // The tags by which the caller may give an address away in a set: its own, and in J', S' and R' what is open to it.
-    fn tags(&self, set: NewSet) -> Tags<'_>
+    pub(crate) fn tags(&self, set: NewSet) -> Tags<'_>
         ensures { asked_by (caller_of self.now) result ≡ open_in set (before self.now) }
     {
         let owned = Tags {
@@ -165,13 +165,7 @@ impl NextStep<'_> {
         }
     }
 
-    // Whether the caller may give an address away in a set; R' is asked in strict mode alone.
-    pub(crate) fn gives(&self, set: NewSet, x: u32) -> bool
-        ensures { result ≡ gives set (before self.now) x }
-    {
-        self.caller().reaches(&self.tags(set), x)
-    }
-
+    // Whether the caller may give every address of a set away in it; R' is asked in strict mode alone.
     pub(crate) fn gives_all(&self, set: NewSet) -> bool
         ensures { result ≡ within (set_by (before self.now) (set_number set)) (gives set (before self.now)) }
     {

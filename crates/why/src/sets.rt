@@ -70,7 +70,10 @@ impl NextStep<'_> {
     fn first_not(&self, set: NewSet, first: u32, past: u32) -> Option<u32>
         ensures { IsFirstNot (gives set (before self.now)) first past result }
     {
-        (first..past).find(|&x| !self.gives(set, x))
+        // the tags are the same at every address
+        let caller = self.caller();
+        let tags = self.tags(set);
+        (first..past).find(|&x| !caller.reaches(&tags, x))
     }
 
     // The first address of a set that the caller may not give away in it; there is one.
