@@ -74,6 +74,7 @@ pub fn serve(
     ensures { served_of result owners.new jumpers.new writers.new readers.new ≡ serving (state_by call.now pc jumped words.now owners.old jumpers.old writers.old readers.old) }
 {
     let services = call.services;
+    let strict = call.caller.strict;
     // where nothing is gained
     let still = Served {
         answer: Ok(()),
@@ -130,7 +131,7 @@ pub fn serve(
                 ..still
             }
         }
-        modes::ADD_READ_TARGET if call.caller.strict => {
+        modes::ADD_READ_TARGET if strict => {
             // readers are not counted
             let added = add_target(call, jumped, services[3], owners, readers);
             Served {
