@@ -1,10 +1,14 @@
 // What a compartment owns and may do, as ranges of addresses.
 #![tactic(auto)]
 
+ghost use Rattle.std.specs.Prelude.{◌≡◌};
+ghost use Rattle.grants.specs.Kinds.{grant_of};
+
 use compartments::Set;
 use machine::Processor;
 use memory::Memories;
 use reach::Caller;
+use std::convert::AsSlice;
 use std::io;
 
 /// What is listed of a compartment.
@@ -14,6 +18,19 @@ pub enum Grant {
     JumpsTo,
     StoresTo,
     Reads,
+}
+
+impl From<u32> for Grant {
+    ghost from_gives = { λ kind grant. grant ≡ grant_of kind };
+
+    fn from(kind: u32) -> Grant {
+        match kind {
+            0 => Grant::Owns,
+            1 => Grant::JumpsTo,
+            2 => Grant::StoresTo,
+            _ => Grant::Reads,
+        }
+    }
 }
 
 // The last service is at 4099.
@@ -54,33 +71,40 @@ impl Grant {
     }
 }
 
-// The addresses from `first` to the one before `past`; a single one as itself.
-fn tell_range(rt: &impl Print, lead: &str, first: u32, past: u32) -> io::Result<()> {
+// The addresses from `first` to the one before `past`, behind what parts them from others; a single one as itself.
+fn tell_range(rt: &impl Print, between: &str, first: u32, past: u32) -> io::Result<()> {
     let last = past.wrapping_sub(1);
     if first == last {
-        print!(rt; "{lead}{first}")
+        print!(rt; "{between}{first}")
     } else {
-        print!(rt; "{lead}{first}-{last}")
+        print!(rt; "{between}{first}-{last}")
     }
 }
 
-/// The addresses of one kind as ranges, behind a text; nothing where there is none. Answers whether there is one.
+/// The addresses of one kind as ranges, behind a text, whose bytes may be any; nothing where there is none. Answers whether there is one.
 pub fn list(
     rt: &impl Print,
-    grant: Grant,
+    grant: impl Into<Grant>,
     c: u32,
-    lead: &str,
+    lead: impl AsSlice<u8> + Drop,
     cpu: Processor,
     lent: &Memories<'_>,
 ) -> io::Result<bool> {
+    let grant: Grant = grant.into();
     let mut told = false;
     let mut open = None;
-    for x in 0..=PAST {
+    // nobody has anything between memory and the services
+    let words = 0..=cpu.n.min(PAST);
+    let services = cpu.n.saturating_add(1).max(modes::ISOLATE)..=PAST;
+    for x in words.chain(services) {
         let here = x < PAST && grant.has(c, x, cpu, lent);
         match open {
             None if here => open = Some(x),
             Some(first) if !here => {
-                tell_range(rt, if told { ", " } else { lead }, first, x)?;
+                if !told {
+                    rt.write_all(lead.as_slice())?;
+                }
+                tell_range(rt, if told { ", " } else { "" }, first, x)?;
                 told = true;
                 open = None;
             }
@@ -117,9 +141,9 @@ pub fn tell_compartments(rt: &impl Print, cpu: Processor, lent: &Memories<'_>) -
     Ok(())
 }
 
-/// The numbers in a set, or nobody.
-pub fn tell_members(rt: &impl Print, lead: &str, set: u64) -> io::Result<()> {
-    print!(rt; "{lead}")?;
+/// The numbers in a set, or nobody, behind a text, whose bytes may be any.
+pub fn tell_members(rt: &impl Print, lead: impl AsSlice<u8> + Drop, set: u64) -> io::Result<()> {
+    rt.write_all(lead.as_slice())?;
     if set == 0 {
         return print!(rt; "nobody");
     }
