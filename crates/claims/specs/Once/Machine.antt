@@ -14,7 +14,7 @@ use Rattle.instructions.specs.Views.{decoded, encoded}
 use Rattle.monitor.specs.declared.Isolated.{Isolated}
 use Rattle.reach.specs.declared.Call.{Call}
 use Rattle.monitor.specs.Outcomes.{Isolating, isolating_of, Adding, adding_of}
-use Rattle.service.specs.Served.{Serving, served_of}
+use Rattle.service.specs.Served.{Serving}
 use Rattle.service.specs.declared.Served.{Served}
 use Rattle.machine.specs.declared.Stepped.{Stepped}
 use Rattle.machine.specs.declared.Ran.{Ran}
@@ -133,10 +133,13 @@ add_target_once κs a r q s t h k = sym (is_added _ r) ∙ same_by added_in h k 
 
 -- service: serve, with the owners, jumpers, writers and readers
 
+one_stop : (r q : Served) → answer_of r.answer ≡ answer_of q.answer → r.answer ≡ q.answer
+one_stop r q = same_result answer_of (λ n. n) (λ n. Prim.tt) (λ a. refl) (λ a. refl) (λ e. refl) r.answer q.answer
+
 pub serve_once : Once serve.Post {Out = Served × Tags} (λ κs r s. (r, tags s.1.1.1.1))
 serve_once κs a r q s t h k =
     let e = same h k in
-    λ i. (record { answer = one_answer r.answer q.answer (ap (λ (m : Serving). m.answer) e) i; number = (e i).number; next = (e i).next; services = (e i).services; to = (e i).to; owned = (e i).owned; jump = (e i).jump; store = (e i).store }, ((e i).owners, (e i).jumpers, (e i).writers, (e i).readers))
+    λ i. (record { answer = one_stop r q (ap (λ (m : Serving). m.answer) e) i; number = (e i).number; next = (e i).next; services = (e i).services; to = (e i).to; owned = (e i).owned; jump = (e i).jump; store = (e i).store }, ((e i).owners, (e i).jumpers, (e i).writers, (e i).readers))
 
 -- machine: Processor::step, Processor::run, with the five memories
 
