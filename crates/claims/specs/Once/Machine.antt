@@ -12,7 +12,6 @@ use Rattle.answers.specs.Results.{result_of, result_of-number, same_result}
 use Rattle.instructions.specs.declared.Instruction.{Instruction}
 use Rattle.instructions.specs.Views.{decoded, encoded}
 use Rattle.monitor.specs.declared.Isolated.{Isolated}
-use Rattle.reach.specs.declared.Call.{Call}
 use Rattle.monitor.specs.Outcomes.{Isolating, isolating_of, Adding, adding_of}
 use Rattle.service.specs.Served.{Serving}
 use Rattle.service.specs.declared.Served.{Served}
