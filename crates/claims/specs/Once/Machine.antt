@@ -1,5 +1,5 @@
 -- "Two outcomes allowed by one promise are proved equal", of the machine: sets of numbers, words, one instruction, services, step and run, images.
-use Rattle.std.specs.Prelude.{◌≡◌, ℕ, List, refl, Result, Ok, Err}
+use Rattle.std.specs.Prelude.{◌≡◌, ℕ, List, refl, Result, Ok, Err, ⊤}
 use Rattle.std.proofs.Common.{sym, ap, ◌∙◌}
 use Rattle.common.specs.Words as words
 use Rattle.rules.specs.Step as rules
@@ -103,8 +103,12 @@ decide_once κs a r q s t = same
 
 -- monitor: isolate_verdict; isolate, with the owners, jumpers, writers and readers; add_target, with the sets
 
+-- two results that hand on nothing are one, where they answer the same
+pub one_answer : (r q : Result ⊤ Refusal) → answer_of r ≡ answer_of q → r ≡ q
+one_answer = same_result answer_of (λ n. n) (λ n. tt) (λ u. refl) (λ u. refl) (λ e. refl)
+
 pub isolate_verdict_once : Once isolate-verdict.Post (λ κs r s. r)
-isolate_verdict_once κs a r q s t h k = same_result answer_of (λ n. n) (λ n. Prim.tt) (λ u. refl) (λ u. refl) (λ e. refl) r q (same h k)
+isolate_verdict_once κs a r q s t h k = one_answer r q (same h k)
 
 -- what is seen of a result and of the memories tells them
 
@@ -132,13 +136,10 @@ add_target_once κs a r q s t h k = sym (is_added _ r) ∙ same_by added_in h k 
 
 -- service: serve, with the owners, jumpers, writers and readers
 
-one_stop : (r q : Served) → answer_of r.answer ≡ answer_of q.answer → r.answer ≡ q.answer
-one_stop r q = same_result answer_of (λ n. n) (λ n. Prim.tt) (λ a. refl) (λ a. refl) (λ e. refl) r.answer q.answer
-
 pub serve_once : Once serve.Post {Out = Served × Tags} (λ κs r s. (r, tags s.1.1.1.1))
 serve_once κs a r q s t h k =
     let e = same h k in
-    λ i. (record { answer = one_stop r q (ap (λ (m : Serving). m.answer) e) i; number = (e i).number; next = (e i).next; services = (e i).services; to = (e i).to; owned = (e i).owned; jump = (e i).jump; store = (e i).store }, ((e i).owners, (e i).jumpers, (e i).writers, (e i).readers))
+    λ i. (record { answer = one_answer r.answer q.answer (ap (λ (m : Serving). m.answer) e) i; number = (e i).number; next = (e i).next; services = (e i).services; to = (e i).to; owned = (e i).owned; jump = (e i).jump; store = (e i).store }, ((e i).owners, (e i).jumpers, (e i).writers, (e i).readers))
 
 -- machine: Processor::step, Processor::run, with the five memories
 
@@ -172,18 +173,15 @@ check_once κs a r q s t h k = same_result checked_of (λ c. c.answer) (λ c. c.
 
 -- loader: load, with the five memories
 
-pub one_answer : (r q : Loaded) → answer_of r.answer ≡ answer_of q.answer → r.answer ≡ q.answer
-one_answer r q = same_result answer_of (λ n. n) (λ n. tt) (λ a. refl) (λ a. refl) (λ e. refl) r.answer q.answer
-
 pub load_once : Once load.Post {Out = Loaded × Lists} (λ κs r s. (r, lists s.1.1))
 load_once κs a r q s t h k =
     let e = same h k in
-    λ i. (record { cpu = processor_of (e i).state.cpu; answer = one_answer r q (ap (λ (m : images.Loaded). m.answer) e) i }, lists_of (e i).state)
+    λ i. (record { cpu = processor_of (e i).state.cpu; answer = one_answer r.answer q.answer (ap (λ (m : images.Loaded). m.answer) e) i }, lists_of (e i).state)
 
 pub load_rows_once : Once load_rows.Post {Out = Loaded × Lists × List Row} (λ κs r s. (r, lists s.1.1, table s.1.1.1.1.1.1.1.0.now))
 load_rows_once κs a r q s t h k =
     let e = same h k in
-    λ i. (record { cpu = processor_of (e i).state.cpu; answer = one_answer r q (ap (λ (m : LentStepped). m.answer) e) i }, lists_of (e i).state, (e i).rows)
+    λ i. (record { cpu = processor_of (e i).state.cpu; answer = one_answer r.answer q.answer (ap (λ (m : LentStepped). m.answer) e) i }, lists_of (e i).state, (e i).rows)
 
 -- writer: write, with the buffer
 

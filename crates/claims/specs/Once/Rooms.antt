@@ -40,12 +40,12 @@ module _ (n : ℕ) (fits : Fits w64 n) where
   pub load_once : Once (load.Post n fits) {Out = Loaded × Room n} (λ κs r s. (r, s.0.now))
   load_once κs a r q s t h k =
       let e = same h k in
-      λ i. (record { cpu = processor_of (e i).state.cpu; answer = one_answer r q (ap (λ (m : images.Loaded). m.answer) e) i }, room_of (e i).state)
+      λ i. (record { cpu = processor_of (e i).state.cpu; answer = one_answer r.answer q.answer (ap (λ (m : images.Loaded). m.answer) e) i }, room_of (e i).state)
 
   pub load_rows_once : Once (load_rows.Post n fits) {Out = Loaded × Room n × List Row} (λ κs r s. (r, s.0.now, table s.1.1.1.0.now))
   load_rows_once κs a r q s t h k =
       let e = same h k in
-      λ i. (record { cpu = processor_of (e i).state.cpu; answer = one_answer r q (ap (λ (m : LentStepped). m.answer) e) i }, room_of (e i).state, (e i).rows)
+      λ i. (record { cpu = processor_of (e i).state.cpu; answer = one_answer r.answer q.answer (ap (λ (m : LentStepped). m.answer) e) i }, room_of (e i).state, (e i).rows)
 
   pub run_once : Once (run.Post n fits) {Out = Ran × Room n} (λ κs r s. (r, s.0.now))
   run_once κs a r q s t =
