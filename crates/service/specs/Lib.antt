@@ -3,3 +3,4 @@ pub mod Served
 pub mod CaseLaws
 pub mod ServiceLaws
 pub mod ServingRows
+pub mod StopLaws
